@@ -19,6 +19,12 @@ pub type View = u32;
 /// The number of a request or a call, from 1.
 pub type Number = u32;
 
+/// A SHA-256 digest (FIPS 180-4).
+pub type Digest = [u8; 32];
+
+/// A tag of HMAC with SHA-256 (RFC 2104).
+pub type Tag = [u8; 32];
+
 /// A replica, by its group and its index within the group, from 0.
 #[derive(Clone, Copy, Debug, PartialEq, Eq, PartialOrd, Ord)]
 pub struct ReplicaId {
