@@ -1,8 +1,9 @@
 //! Sources and sinks over the readers and writers of std, as standard input and output are.
 //!
-//! They tell no bytes: no clause can say what the system gives or takes.
+//! They tell the bytes that the reader or writer tells. Standard input and output tell none: no clause can say what
+//! the system gives or takes.
 
-ghost use Rattle.std.specs.Prelude.{◌≡◌, None};
+ghost use Rattle.std.specs.Prelude.{◌≡◌};
 
 use crate::streams::{Got, Sink, Source, Took};
 use std::io::{ErrorKind, Read, Write};
@@ -25,10 +26,11 @@ impl<R: Read> ReaderSource<R> {
 }
 
 impl<R: Read> Source for ReaderSource<R> {
-    ghost left = { λ _. None };
+    ghost left = { λ s. R.remaining s.reader };
 
     ghost faults = { λ s. s.faults };
 
+    #[tactic(auto, using(crate::proofs::Known::read_next, crate::proofs::Known::read_end, crate::proofs::Known::read_failed, crate::proofs::Known::kept_again))]
     fn read(&mut self, into: &mut [u8]) -> Got {
         for _ in 0..u64::MAX {
             match self.reader.read(into) {
@@ -62,10 +64,11 @@ impl<W: Write> WriterSink<W> {
 }
 
 impl<W: Write> Sink for WriterSink<W> {
-    ghost held = { λ _. None };
+    ghost held = { λ s. W.contents s.writer };
 
     ghost faults = { λ s. s.faults };
 
+    #[tactic(auto, using(crate::proofs::Known::write_more, crate::proofs::Known::write_failed, crate::proofs::Known::kept_again))]
     fn write(&mut self, from: &[u8]) -> Took {
         for _ in 0..u64::MAX {
             match self.writer.write(from) {

@@ -1,0 +1,91 @@
+//! The request of a caller.
+
+ghost use Rattle.std.specs.Prelude.{◌≡◌, IfOk};
+ghost use Rattle.pws_event.specs.Requests.{RequestFields, IsRequest};
+
+use pws_base::bytes::Bytes;
+use pws_base::lists::ExactCopy;
+use pws_base::memory::Memory;
+use pws_base::shapes::{GroupId, Number};
+use std::alloc::Global;
+use std::marker::Model;
+
+/// A request of a group to another: its number, the least number whose answer the caller still waits for, and a
+/// body.
+///
+/// The caller is 0 to 15, the numbers are 1 to 1,000,000, and the body has at most 32,768 bytes.
+#[derive(Debug, Drop)]
+pub struct Request {
+    caller: GroupId,
+    number: Number,
+    low: Number,
+    body: Bytes,
+}
+
+impl Model for Request {
+    ghost use Rattle.pws_event.specs.Requests.{RequestFields, IsRequest};
+
+    ghost Value = { RequestFields };
+
+    ghost view = { λ r. record { caller = r.caller; number = r.number; low = r.low; body = r.body } };
+
+    ghost invariant = { λ r. IsRequest (record { caller = r.caller; number = r.number; low = r.low; body = r.body }) };
+}
+
+impl Request {
+    /// A request with these fields, which are to be in range.
+    pub fn new(caller: GroupId, number: Number, low: Number, body: Bytes) -> Request
+        requires { IsRequest (record { caller = caller; number = number; low = low; body = body }) }
+        ensures { result ≡ record { caller = caller; number = number; low = low; body = body } }
+    {
+        Request {
+            caller,
+            number,
+            low,
+            body,
+        }
+    }
+
+    /// The group that asks.
+    pub fn caller(&self) -> GroupId
+        ensures value { result ≡ self.now.caller }
+        ensures lawful { IsRequest self.now }
+    {
+        self.caller
+    }
+
+    /// The number of the request among those of its caller to this group.
+    pub fn number(&self) -> Number
+        ensures value { result ≡ self.now.number }
+        ensures lawful { IsRequest self.now }
+    {
+        self.number
+    }
+
+    /// The least number whose answer the caller still waits for.
+    pub fn low(&self) -> Number
+        ensures value { result ≡ self.now.low }
+        ensures lawful { IsRequest self.now }
+    {
+        self.low
+    }
+
+    /// The body.
+    pub fn body(&self) -> &[u8]
+        ensures value { result.now ≡ self.now.body }
+        ensures lawful { IsRequest self.now }
+    {
+        self.body.as_slice()
+    }
+}
+
+impl ExactCopy for Request {
+    fn copy(&self, alloc: Global) -> Result<Request, Memory> {
+        Ok(Request {
+            caller: self.caller,
+            number: self.number,
+            low: self.low,
+            body: self.body.copy(alloc)?,
+        })
+    }
+}
