@@ -1,0 +1,5 @@
+pub mod FirstForm
+pub mod FirstFormErrors
+pub mod HexErrors
+pub mod Hexadecimal
+pub mod Statuses
