@@ -84,17 +84,15 @@ impl Effect {
         }
     }
 
-    /// Whether an event would take effect now.
-    pub fn would_take(&self, event: &Event) -> bool
-        ensures { (events : List Event) → HasTaken self.now events → result ≡ takes_effect self.now.me self.now.layout (effects self.now.me self.now.layout events) event.now }
+    /// Whether a request would take effect now.
+    pub fn would_take(&self, request: &Request) -> bool
+        ensures { (events : List Event) → HasTaken self.now events → result ≡ takes_effect self.now.me self.now.layout (effects self.now.me self.now.layout events) (Event.Request request.now) }
     {
-        match event {
-            Event::Null => false,
-            Event::Request(request) => self.would_take_request(request),
-        }
+        self.decides(request)
     }
 
-    fn would_take_request(&self, request: &Request) -> bool
+    /// Whether a request takes effect by the counters.
+    fn decides(&self, request: &Request) -> bool
         ensures answer { result ≡ would_take self.now request.now }
         ensures lawful { IsRequest request.now }
     {
@@ -127,7 +125,7 @@ impl Effect {
         ensures taken { self.new ≡ after_request self.old request.now }
         ensures answer { result ≡ (if would_take self.old request.now then Taken.Taken else Taken.Void) }
     {
-        if !self.would_take_request(request) {
+        if !self.decides(request) {
             return Taken::Void;
         }
         let caller = request.caller() as usize;

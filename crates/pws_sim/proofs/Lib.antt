@@ -1,0 +1,4 @@
+pub mod Done
+pub mod Followed
+pub mod Lines
+pub mod Pushes

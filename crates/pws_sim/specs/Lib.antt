@@ -1,0 +1,4 @@
+pub mod Followed
+pub mod Outcomes
+pub mod Replica
+pub mod Reports
