@@ -1,0 +1,12 @@
+//! Tests of the simulator: whole texts and statuses through `sim_main`.
+//!
+//! They show what no clause says: that the definitions mean what the worked cases say, that calls succeed with
+//! ample memory, and that a fault of the source or the sink is told where it comes.
+#![tactic(auto)]
+
+#[cfg(test)]
+mod faults;
+#[cfg(test)]
+mod runs;
+#[cfg(test)]
+mod tables;
