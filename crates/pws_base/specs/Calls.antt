@@ -1,4 +1,4 @@
--- Streams over memory, whose calls fail where their numbers are listed.
+-- Streams over memory, whose calls fail where their numbers are listed; this project's own.
 use Rattle.std.specs.Prelude.{ℕ, ◌-◌, ◌==◌, ◌||◌, ◌++◌, min, Bool, nat_le, if◌then◌else◌, List, length, take, drop}
 use Rattle.std.specs.List.{list_any}
 use Rattle.pws_base.specs.Streams.{raised}
@@ -13,6 +13,7 @@ pub record CallCounts : Type 0 where
   pub made : ℕ
   pub faults : ℕ
 
+-- no call was made yet
 abbrev pub fresh_calls : List ℕ → CallCounts
 fresh_calls failing = record { failing = failing; made = 0; faults = 0 }
 
@@ -20,9 +21,11 @@ fresh_calls failing = record { failing = failing; made = 0; faults = 0 }
 abbrev pub is_due : CallCounts → Bool
 is_due calls = list_any (λ listed. listed == raised calls.made) calls.failing
 
+-- one more call was made
 abbrev pub call_made : CallCounts → CallCounts
 call_made calls = record calls { made = raised calls.made }
 
+-- one more call failed
 abbrev pub call_failed : CallCounts → CallCounts
 call_failed calls = record calls { faults = raised calls.faults }
 
@@ -42,6 +45,7 @@ read_of s size =
     else if length s.left == 0 then got.End
     else got.Read (min (length s.left) size)
 
+-- the bytes left after a read
 abbrev pub left_after : List ℕ → Got → List ℕ
 left_after left (got.Read count) = drop count left
 left_after left got.End = left
@@ -61,6 +65,7 @@ is_refused s = is_due s.calls || nat_le s.room (length s.held)
 abbrev pub write_of : SinkState → List ℕ → Took
 write_of s piece = if is_refused s then took.Failed else took.Wrote (min (s.room - length s.held) (length piece))
 
+-- the bytes held after a write
 abbrev pub held_after : List ℕ → List ℕ → Took → List ℕ
 held_after held piece (took.Wrote count) = held ++ take count piece
 held_after held piece took.Failed = held

@@ -1,4 +1,5 @@
--- How a layout is stored: sixteen numbers, of which the first belong to groups and the others are 0.
+-- How a layout is stored: sixteen numbers, of which the first belong to groups and the others are 0;
+-- this project's own.
 use Rattle.std.specs.Prelude.{◌≡◌, ℕ, ◌-◌, ◌≤◌, ◌++◌, List, length, take, drop, replicate, slice_index}
 use Rattle.std.proofs.Common.{◌∙◌, ap, arith}
 use Rattle.std.proofs.lemmas.List.{length-take-le, take-append-drop}

@@ -2,6 +2,7 @@
 //!
 //! - `shapes` names groups and replicas, and says how many a group has and needs (`GroupShape`, `Layout`).
 //! - `bytes` and `lists` are the small owners over a `Vec` that contracts of all crates see as plain lists.
+//! - `memory` is the want of memory, which every call that allocates may answer.
 //! - `cursors` and `writers` read and write numbers and bytes, high byte first.
 //! - `streams` are the traits over the outside, `Source` and `Sink`. Each counts its faults, and may tell the
 //!   bytes that are still to come, or that it holds. `memory_streams` are sources and sinks for tests, whose

@@ -1,6 +1,6 @@
 //! Sources and sinks over memory, for tests: the calls that fail are listed by their numbers.
 
-use crate::bytes::Bytes;
+use crate::lists::ExactCopy;
 use crate::memory::Memory;
 use crate::streams::{Got, Sink, Source, Took};
 use std::alloc::Global;
@@ -58,6 +58,16 @@ impl Calls {
     }
 }
 
+impl ExactCopy for Calls {
+    fn copy(&self, alloc: Global) -> Result<Calls, Memory> {
+        Ok(Calls {
+            failing: self.failing.as_slice().to_vec(alloc)?,
+            made: self.made,
+            faults: self.faults,
+        })
+    }
+}
+
 /// A source over memory.
 #[derive(Drop)]
 pub struct MemorySource {
@@ -78,7 +88,8 @@ impl Model for MemorySource {
 }
 
 impl MemorySource {
-    /// A source of these bytes. Its calls whose numbers, from 1, are in `failing` fail, and no others.
+    /// A source of these bytes, which takes no memory, neither now nor when it is read. Its calls whose numbers, from
+    /// 1, are in `failing` fail, and no others.
     pub fn new(bytes: Vec<u8>, failing: Vec<u32>) -> MemorySource
         ensures left { result.left ≡ bytes.items }
         ensures calls { result.calls ≡ fresh_calls failing.items }
@@ -120,6 +131,16 @@ impl Source for MemorySource {
     }
 }
 
+impl ExactCopy for MemorySource {
+    fn copy(&self, alloc: Global) -> Result<MemorySource, Memory> {
+        Ok(MemorySource {
+            bytes: self.bytes.as_slice().to_vec(alloc)?,
+            at: self.at,
+            calls: self.calls.copy(alloc)?,
+        })
+    }
+}
+
 /// A sink over memory.
 #[derive(Drop)]
 pub struct MemorySink {
@@ -141,7 +162,7 @@ impl Model for MemorySink {
 
 impl MemorySink {
     /// A sink that can hold `room` bytes, for which it takes the memory now. Its calls whose numbers, from 1, are
-    /// in `failing` fail, and those that find the room used up, and no others.
+    /// in `failing` fail, and those that find the room used up, and no others. A write takes no memory.
     ///
     /// # Errors
     ///
@@ -189,5 +210,17 @@ impl Sink for MemorySink {
             Ok(()) => Took::Wrote(count),
             Err(_) => unreachable!(),
         }
+    }
+}
+
+impl ExactCopy for MemorySink {
+    fn copy(&self, alloc: Global) -> Result<MemorySink, Memory> {
+        let mut bytes = Vec::with_capacity(alloc, self.room)?;
+        bytes.extend_from_slice(self.bytes.as_slice())?;
+        Ok(MemorySink {
+            bytes,
+            room: self.room,
+            calls: self.calls.copy(alloc)?,
+        })
     }
 }

@@ -2,21 +2,24 @@
 
 ghost use Rattle.std.specs.Prelude.{◌≡◌, ℕ, ◌+◌, ◌*◌, ◌%◌, ◌<◌, ◌≤◌, ◌↔◌, [], length, All, IsOk, IfOk, IsTrue, slice_get};
 ghost use Rattle.std.specs.List.{AllPass};
-ghost use Rattle.pws_base.specs.Shapes.{size_of_group, has_replica};
+ghost use Rattle.pws_base.specs.Shapes.{size_of_group, quorum_of, weak_of, primary_of, has_replica};
 
+use crate::lists::ExactCopy;
+use crate::memory::Memory;
+use std::alloc::Global;
 use std::marker::Model;
 use thiserror::Error;
 
 /// The number of a group, 0 to 15.
 pub type GroupId = u8;
 
-/// The number of a place in a list of events, from 1.
+/// The number of a place in a list of events, 1 to 1,000,000; 0 where no place is meant.
 pub type Place = u32;
 
-/// The number of a view, from 0.
+/// The number of a view, 0 to 1,000,000.
 pub type View = u32;
 
-/// The number of a request or a call, from 1.
+/// The number of a request or a call, 1 to 1,000,000; 0 where there is none yet.
 pub type Number = u32;
 
 /// A SHA-256 digest (FIPS 180-4).
@@ -25,7 +28,7 @@ pub type Digest = [u8; 32];
 /// A tag of HMAC with SHA-256 (RFC 2104).
 pub type Tag = [u8; 32];
 
-/// A replica, by its group and its index within the group, from 0.
+/// A replica, by its group and its index within the group, 0 to 9.
 #[derive(Clone, Copy, Debug, PartialEq, Eq, PartialOrd, Ord)]
 pub struct ReplicaId {
     pub group: GroupId,
@@ -72,7 +75,7 @@ impl GroupShape {
         }
     }
 
-    /// How many of its replicas may be compromised.
+    /// How many of its replicas may be compromised, f, so 0 to 3.
     pub fn f(&self) -> u8
         ensures value { result ≡ self.now }
         ensures few { result ≤ 3 }
@@ -80,7 +83,7 @@ impl GroupShape {
         self.f
     }
 
-    /// How many replicas it has, 1 to 10.
+    /// How many replicas it has, 3f + 1, so 1 to 10.
     pub fn n(&self) -> u8
         ensures value { result ≡ size_of_group self.now }
         ensures few { result ≤ 10 }
@@ -88,25 +91,25 @@ impl GroupShape {
         3 * self.f + 1
     }
 
-    /// How many replicas are a quorum: any two quorums share a replica that isn't compromised.
+    /// How many replicas are a quorum, 2f + 1, so 1 to 7: any two quorums share a replica that isn't compromised.
     pub fn quorum(&self) -> u8
-        ensures value { result ≡ 2 * self.now + 1 }
+        ensures value { result ≡ quorum_of self.now }
         ensures few { result ≤ 7 }
     {
         2 * self.f + 1
     }
 
-    /// How many replicas are a weak certificate: one of them isn't compromised.
+    /// How many replicas are a weak certificate, f + 1, so 1 to 4: one of them isn't compromised.
     pub fn weak(&self) -> u8
-        ensures value { result ≡ self.now + 1 }
+        ensures value { result ≡ weak_of self.now }
         ensures few { result ≤ 4 }
     {
         self.f + 1
     }
 
-    /// The index of the primary of a view.
+    /// The index of the primary of a view, the view modulo n, so 0 to 9.
     pub fn primary(&self, view: View) -> u8
-        ensures value { result ≡ view % size_of_group self.now }
+        ensures value { result ≡ primary_of self.now view }
         ensures few { result ≤ 9 }
     {
         (view % u32::from(self.n())) as u8
@@ -195,5 +198,11 @@ impl Layout {
             Some(shape) => replica.index < shape.n(),
             None => false,
         }
+    }
+}
+
+impl ExactCopy for Layout {
+    fn copy(&self, _alloc: Global) -> Result<Layout, Memory> {
+        Ok(*self)
     }
 }

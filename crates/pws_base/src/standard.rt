@@ -8,7 +8,7 @@ ghost use Rattle.std.specs.Prelude.{◌≡◌};
 use crate::streams::{Got, Sink, Source, Took};
 use std::io::{ErrorKind, Read, Write};
 
-/// A source over a reader. An interrupted read is tried again, and every other error is a fault.
+/// A source over a reader. An interrupted read is tried again, up to 2^64 - 1 times, and every other error is a fault.
 #[derive(Drop)]
 pub struct ReaderSource<R: Read> {
     reader: R,
@@ -18,8 +18,8 @@ pub struct ReaderSource<R: Read> {
 impl<R: Read> ReaderSource<R> {
     /// A source of the bytes that this reader gives.
     pub fn new(reader: R) -> ReaderSource<R>
-        ensures reader { result.reader ≡ reader }
-        ensures faults { result.faults ≡ 0 }
+        ensures left { ⟦<ReaderSource<R> as Source>⟧.left result ≡ R.remaining reader }
+        ensures faults { ⟦<ReaderSource<R> as Source>⟧.faults result ≡ 0 }
     {
         ReaderSource { reader, faults: 0 }
     }
@@ -45,8 +45,8 @@ impl<R: Read> Source for ReaderSource<R> {
     }
 }
 
-/// A sink over a writer. An interrupted write is tried again; every other error, and a write of no byte, is a
-/// fault.
+/// A sink over a writer. An interrupted write is tried again, up to 2^64 - 1 times; every other error, and a write of
+/// no byte, is a fault.
 #[derive(Drop)]
 pub struct WriterSink<W: Write> {
     writer: W,
@@ -56,8 +56,8 @@ pub struct WriterSink<W: Write> {
 impl<W: Write> WriterSink<W> {
     /// A sink that hands its bytes to this writer.
     pub fn new(writer: W) -> WriterSink<W>
-        ensures writer { result.writer ≡ writer }
-        ensures faults { result.faults ≡ 0 }
+        ensures held { ⟦<WriterSink<W> as Sink>⟧.held result ≡ W.contents writer }
+        ensures faults { ⟦<WriterSink<W> as Sink>⟧.faults result ≡ 0 }
     {
         WriterSink { writer, faults: 0 }
     }

@@ -6,12 +6,15 @@ ghost use Rattle.pws_base.specs.Streams.{FitsBuffer, ReadCause, TakesNext, FitsP
 /// What one read gave: so many bytes, the end, or a fault.
 #[derive(Clone, Copy, Debug, PartialEq, Eq)]
 pub enum Got {
+    /// So many bytes, from 1 to the length of the buffer.
     Read(usize),
+    /// No byte is left.
     End,
+    /// A fault.
     Failed,
 }
 
-/// A source of bytes that counts its faults.
+/// A source of bytes that counts its faults. A count never falls; at 2^64 - 1 it stays, and there counts as risen.
 pub trait Source {
     /// The bytes still to come, where the source tells them.
     ghost left: { Self → Option (List ℕ) };
@@ -34,11 +37,13 @@ pub trait Source {
 /// What one write took: so many bytes, or a fault.
 #[derive(Clone, Copy, Debug, PartialEq, Eq)]
 pub enum Took {
+    /// So many bytes, from 1 to the length of the piece.
     Wrote(usize),
+    /// A fault.
     Failed,
 }
 
-/// A sink of bytes that counts its faults.
+/// A sink of bytes that counts its faults. A count never falls; at 2^64 - 1 it stays, and there counts as risen.
 pub trait Sink {
     /// The bytes held, where the sink tells them.
     ghost held: { Self → Option (List ℕ) };

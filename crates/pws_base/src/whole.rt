@@ -11,10 +11,13 @@ use thiserror::Error;
 /// Why no whole text was read.
 #[derive(Clone, Copy, Debug, PartialEq, Eq, Error)]
 pub enum ReadError {
+    /// The source has more bytes than the limit.
     #[error("more bytes than the limit")]
     Limit,
+    /// The source failed.
     #[error("the source failed")]
     Fault,
+    /// There was no memory.
     #[error("out of memory")]
     Memory,
 }

@@ -1,17 +1,18 @@
 //! Writing numbers and bytes one after the other, high byte first.
 
-ghost use Rattle.std.specs.Prelude.{◌≡◌, ℕ, List, [], ◌∷◌, ◌++◌, OnOk, OnErr, ◌<◌, ◌^◌, length};
-ghost use Rattle.pws_base.specs.Texts.{u16_text, u32_text, u64_text, sized_text};
+ghost use Rattle.std.specs.Prelude.{◌≡◌, ℕ, List, [], ◌∷◌, ◌++◌, OnOk, OnErr};
+ghost use Rattle.pws_base.specs.Texts.{u16_text, u32_text, u64_text};
 
 use crate::bytes::Bytes;
+use crate::lists::ExactCopy;
 use crate::memory::Memory;
 use std::alloc::Global;
 use std::marker::Model;
 
 /// Bytes that are being written.
 ///
-/// Contracts see it as the list of the bytes so far. Each `put_` but `put_sized` adds its bytes at the end, or
-/// answers `Memory`, and then adds nothing.
+/// Contracts see it as the list of the bytes so far. Each `put_` adds its bytes at the end, or answers
+/// `Memory`, and then adds nothing.
 #[derive(Debug, Drop)]
 pub struct Writer {
     bytes: Vec<u8>,
@@ -59,19 +60,6 @@ impl Writer {
     {
         self.bytes.extend_from_slice(value)?;
         Ok(())
-    }
-
-    /// Adds the length of these bytes in four bytes, and the bytes.
-    ///
-    /// # Errors
-    ///
-    /// `Memory`; the length may then stand without the bytes.
-    pub fn put_sized(&mut self, value: &[u8]) -> Result<(), Memory>
-        requires { length value.now < 2 ^ 32 }
-        ensures ok { OnOk result (self.new ≡ self.old ++ sized_text value.now) }
-    {
-        self.put_u32(value.len() as u32)?;
-        self.put_bytes(value)
     }
 
     /// Adds one byte.
@@ -124,5 +112,13 @@ impl Writer {
         ensures err { OnErr result (self.new ≡ self.old) }
     {
         self.put_bytes(&value.to_be_bytes())
+    }
+}
+
+impl ExactCopy for Writer {
+    fn copy(&self, alloc: Global) -> Result<Writer, Memory> {
+        Ok(Writer {
+            bytes: self.bytes.as_slice().to_vec(alloc)?,
+        })
     }
 }

@@ -1,7 +1,8 @@
--- The counters that tell which events take effect.
-use Rattle.std.specs.Prelude.{◌≡◌, ℕ, ◌<◌, ◌≤◌, Bool, if◌then◌else◌, List, length, slice_index, slice_set}
+-- The counters that tell which events take effect; this project's own.
+use Rattle.std.specs.Prelude.{◌≡◌, ℕ, ◌<◌, ◌≤◌, Bool, nat_lt, if◌then◌else◌, List, length, slice_index, slice_set}
 use Rattle.pws_event.specs.Requests.{RequestFields}
 use Rattle.pws_event.specs.declared.events.Event.{Event}
+use Rattle.pws_event.specs.declared.events.Event.TheVariants as event
 use Rattle.pws_event.specs.Effects.{is_next, last_of, low_of, effects}
 
 -- the group and its layout, and by caller the number and the low number of the last request
@@ -32,3 +33,12 @@ after_request c r =
     if would_take c r
     then record c { last = slice_set c.last r.caller r.number; low = slice_set c.low r.caller r.low }
     else c
+
+-- the counters after an event
+abbrev pub after_event : Counters → Event → Counters
+after_event c event.Null = c
+after_event c (event.Request r) = after_request c r
+
+-- a caller's counter, or what it is for a caller that no layout has
+abbrev pub counter_of : List ℕ → ℕ → ℕ → ℕ
+counter_of counters caller none = if nat_lt caller 16 then slice_index counters caller else none

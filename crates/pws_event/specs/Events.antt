@@ -1,4 +1,5 @@
--- The text of an event, its digest, and the chain of digests; this project's own, over SHA-256 (FIPS 180-4).
+-- The text of an event, its digest, and the chain of digests; this project's own, over SHA-256
+-- (FIPS 180-4, section 6.2).
 use Rattle.std.specs.Prelude.{ℕ, List, [], ◌∷◌, ◌++◌, replicate}
 use Rattle.std.specs.List.{fold}
 use Rattle.sha2.specs.Sha256.{sha256}
@@ -16,6 +17,7 @@ abbrev pub event_text : Event → List ℕ
 event_text event.Null = 0 ∷ []
 event_text (event.Request r) = request_text r
 
+-- the digest of an event
 abbrev pub digest_of : Event → List ℕ
 digest_of e = sha256 (event_text e)
 

@@ -1,4 +1,4 @@
--- What follows from the rule of effects alone.
+-- What follows from the rule of effects alone; this project's own.
 use Rattle.std.specs.Prelude.{◌≡◌, ℕ, ◌-◌, List, ◌++◌, take, Some, IsTrue}
 use Rattle.pws_event.specs.Requests.{RequestFields}
 use Rattle.pws_event.specs.Effects.{takes_effect, effects}

@@ -29,6 +29,7 @@ would_pass places e = nat_lt (2 ^ 30) (kept_bytes places + length (event_text e)
 abbrev pub placed : List PlacedEvent → Event → PlacedEvent
 placed places e = record { digest = digest_of e; event = if would_pass places e then None else Some e }
 
+-- how an event is kept after these places
 abbrev pub pushed_as : List PlacedEvent → Event → Pushed
 pushed_as places e = if would_pass places e then pushed.Bare else pushed.Whole
 
@@ -36,12 +37,14 @@ pushed_as places e = if would_pass places e then pushed.Bare else pushed.Whole
 abbrev pub at_place : List PlacedEvent → ℕ → Option PlacedEvent
 at_place places place = if place == 0 then None else slice_get places (place - 1)
 
+-- the event, the digest at a place
 abbrev pub event_at : List PlacedEvent → ℕ → Option Event
 event_at places place = option_and_then (λ p. p.event) (at_place places place)
 
 abbrev pub digest_at : List PlacedEvent → ℕ → Option (List ℕ)
 digest_at places place = option_map (λ p. p.digest) (at_place places place)
 
+-- the digests of all places, in order
 abbrev pub digests_of : List PlacedEvent → List (List ℕ)
 digests_of places = map (λ p. p.digest) places
 

@@ -2,13 +2,18 @@
 
 use crate::events::Event;
 use crate::requests::Request;
+use pws_base::lists::ExactCopy;
+use pws_base::memory::Memory;
 use pws_base::shapes::{GroupId, Layout, Number};
+use std::alloc::Global;
 use std::marker::Model;
 
 /// Whether an event took effect, or is void and changed nothing.
 #[derive(Clone, Copy, Debug, PartialEq, Eq)]
 pub enum Taken {
+    /// It took effect.
     Taken,
+    /// It keeps its place and changes nothing.
     Void,
 }
 
@@ -40,10 +45,10 @@ ghost use Rattle.std.specs.Prelude.{◌≡◌, ◌<◌, ◌≤◌, ◌++◌, ◌
 ghost use Rattle.pws_event.specs.declared.events.Event.{Event};
 ghost use Rattle.pws_event.specs.Requests.{IsRequest};
 ghost use Rattle.pws_event.specs.Effects.{last_of, low_of, takes_effect, effects};
-ghost use Rattle.pws_event.specs.Counters.{IsCounters, HasTaken, would_take, after_request};
+ghost use Rattle.pws_event.specs.Counters.{IsCounters, HasTaken, would_take, after_request, after_event, counter_of};
 
 impl Effect {
-    /// The counters of a group before its first event.
+    /// The counters of the group `me`, which is to be one of the layout, before its first event.
     pub fn new(me: GroupId, layout: &Layout) -> Effect
         requires { me < length layout.now }
         ensures taken { HasTaken result [] }
@@ -59,10 +64,12 @@ impl Effect {
         }
     }
 
-    /// The number of a caller's last request that took effect, 0 before the first.
+    /// The number of a caller's last request that took effect; 0 before the first, and always for the own group and
+    /// for a number that is no group of the layout.
     #[tactic(auto, using(crate::proofs::Latest::none_outside))]
     pub fn last(&self, caller: GroupId) -> Number
         ensures value { (events : List Event) → HasTaken self.now events → result ≡ last_of caller (effects self.now.me self.now.layout events) }
+        ensures counter { result ≡ counter_of self.now.last caller 0 }
         ensures small { result ≤ 1000000 }
     {
         if caller < 16 {
@@ -72,10 +79,12 @@ impl Effect {
         }
     }
 
-    /// The low number of a caller's last request that took effect, 1 before the first.
+    /// The low number of a caller's last request that took effect; 1 before the first, and always for the own group
+    /// and for a number that is no group of the layout.
     #[tactic(auto, using(crate::proofs::Latest::none_outside))]
     pub fn low_in(&self, caller: GroupId) -> Number
-        ensures { (events : List Event) → HasTaken self.now events → result ≡ low_of caller (effects self.now.me self.now.layout events) }
+        ensures counter { result ≡ counter_of self.now.low caller 1 }
+        ensures value { (events : List Event) → HasTaken self.now events → result ≡ low_of caller (effects self.now.me self.now.layout events) }
     {
         if caller < 16 {
             self.low[caller as usize]
@@ -86,7 +95,8 @@ impl Effect {
 
     /// Whether a request would take effect now.
     pub fn would_take(&self, request: &Request) -> bool
-        ensures { (events : List Event) → HasTaken self.now events → result ≡ takes_effect self.now.me self.now.layout (effects self.now.me self.now.layout events) (Event.Request request.now) }
+        ensures counters { result ≡ would_take self.now request.now }
+        ensures value { (events : List Event) → HasTaken self.now events → result ≡ takes_effect self.now.me self.now.layout (effects self.now.me self.now.layout events) (Event.Request request.now) }
     {
         self.decides(request)
     }
@@ -105,11 +115,13 @@ impl Effect {
             && request.number() < request.low() + 16
     }
 
-    /// Takes the next event of the group's list.
+    /// Takes the next event of the group's list: `Taken` exactly where it takes effect, and else `Void`, which leaves
+    /// the counters.
     #[tactic(auto, using(crate::proofs::Latest::taken_more, crate::proofs::Latest::null_more))]
     pub fn take(&mut self, event: &Event) -> Taken
         ensures taken { (events : List Event) → HasTaken self.old events → HasTaken self.new (events ++ event.now ∷ []) }
         ensures answer { (events : List Event) → HasTaken self.old events → result ≡ (if takes_effect self.old.me self.old.layout (effects self.old.me self.old.layout events) event.now then Taken.Taken else Taken.Void) }
+        ensures counters { self.new ≡ after_event self.old event.now }
         ensures me { self.new.me ≡ self.old.me }
         ensures layout { self.new.layout ≡ self.old.layout }
     {
@@ -132,5 +144,11 @@ impl Effect {
         self.last[caller] = request.number();
         self.low[caller] = request.low();
         Taken::Taken
+    }
+}
+
+impl ExactCopy for Effect {
+    fn copy(&self, _alloc: Global) -> Result<Effect, Memory> {
+        Ok(*self)
     }
 }

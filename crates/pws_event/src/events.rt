@@ -15,7 +15,9 @@ use std::alloc::Global;
 /// What a group agrees on at one place: nothing, or a request of another group.
 #[derive(Debug, Drop)]
 pub enum Event {
+    /// Nothing: it keeps its place and changes nothing.
     Null,
+    /// A request of another group.
     Request(Request),
 }
 
@@ -37,7 +39,8 @@ fn put_request(text: &mut Writer, request: &Request) -> Result<(), Memory>
     text.put_u8(request.caller())?;
     text.put_u32(request.number())?;
     text.put_u32(request.low())?;
-    text.put_sized(body)
+    text.put_u32(body.len() as u32)?;
+    text.put_bytes(body)
 }
 
 /// The text of an event, by the table of events in docs/FORMATS.md.

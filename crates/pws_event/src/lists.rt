@@ -1,6 +1,7 @@
 //! The list of the events of a group, with their digests and their chain.
 
 use crate::events::{Event, write_event};
+use pws_base::lists::ExactCopy;
 use pws_base::memory::Memory;
 use pws_base::shapes::{Digest, Place};
 use sha2::{Digest as _, Sha256};
@@ -11,15 +12,19 @@ use thiserror::Error;
 /// Whether an event was kept whole, or its digest alone.
 #[derive(Clone, Copy, Debug, PartialEq, Eq)]
 pub enum Pushed {
+    /// The event was kept.
     Whole,
+    /// Its digest alone was kept.
     Bare,
 }
 
 /// Why no event was pushed.
 #[derive(Clone, Copy, Debug, PartialEq, Eq, Error)]
 pub enum PushError {
+    /// The list has 1,000,000 places.
     #[error("the list has all its places")]
     ListFull,
+    /// There was no memory.
     #[error("out of memory")]
     Memory,
 }
@@ -78,11 +83,11 @@ impl Model for EventList {
     ghost invariant = { λ l. IsKept l.slots.items l.bytes };
 }
 
-ghost use Rattle.std.specs.Prelude.{◌≡◌, ◌↔◌, ◌++◌, [], ◌∷◌, ◌+◌, ◌^◌, ◌<◌, ◌≤◌, length, OnOk, OnErr, IfOk, IfErr, IsErrOf, IsTrue, Some, None};
+ghost use Rattle.std.specs.Prelude.{◌≡◌, ◌↔◌, ◌++◌, [], ◌∷◌, ◌+◌, ◌^◌, ◌<◌, ◌≤◌, length, OnOk, OnErr, IfOk, IfErr, IfSome, IsErrOf, IsTrue, Some};
 ghost use Rattle.std.specs.Option.{option_copied};
 ghost use Rattle.sha2.specs.Sha256.{sha256};
 ghost use Rattle.pws_event.specs.Lists.{kept_bytes, text_length, digests_of, placed, pushed_as, event_at, digest_at, chain_at};
-ghost use Rattle.pws_event.specs.Events.{chain_of};
+ghost use Rattle.pws_event.specs.Events.{chain_of, digest_of};
 ghost use Rattle.pws_event.specs.Slots.{place_of, IsSlotAt};
 
 impl EventList {
@@ -128,12 +133,14 @@ impl EventList {
 
     /// The digest of the event at a place, or None exactly outside of 1 to `len`.
     pub fn digest(&self, place: Place) -> Option<Digest>
-        ensures { result ≡ digest_at self.now place }
+        ensures value { result ≡ digest_at self.now place }
+        ensures of_event { IfSome (event_at self.now place) (λ e. result ≡ Some (digest_of e)) }
     {
         Some(self.slot(place)?.digest)
     }
 
-    /// The chain up to a place, 32 zero bytes at place 0, or None exactly above `len`.
+    /// The chain up to a place: 32 zero bytes at place 0, and after each place the SHA-256 of the chain before it and
+    /// the place's digest, joined. None exactly above `len`.
     pub fn chain(&self, place: Place) -> Option<Digest>
         ensures { result ≡ chain_at self.now place }
     {
@@ -203,6 +210,7 @@ impl EventList {
     /// Adds a slot with the next chain, whose event has a text of so many bytes.
     fn add(&mut self, slot: Slot, size: u64) -> Result<(), PushError>
         requires chain { slot.chain ≡ sha256 (chain_of (digests_of self.old) ++ slot.digest) }
+        requires digest { IfSome slot.event (λ e. slot.digest ≡ digest_of e) }
         requires size { size ≡ text_length (place_of slot) }
         requires small { kept_bytes self.old + size ≤ 2 ^ 30 }
         requires few { length self.old < 1000000 }
@@ -213,6 +221,33 @@ impl EventList {
         self.slots.push(slot)?;
         self.bytes += size;
         Ok(())
+    }
+}
+
+impl ExactCopy for Slot {
+    fn copy(&self, alloc: Global) -> Result<Slot, Memory> {
+        let event = match &self.event {
+            None => None,
+            Some(event) => Some(event.copy(alloc)?),
+        };
+        Ok(Slot {
+            digest: self.digest,
+            chain: self.chain,
+            event,
+        })
+    }
+}
+
+impl ExactCopy for EventList {
+    fn copy(&self, alloc: Global) -> Result<EventList, Memory> {
+        let mut slots = Vec::new(alloc);
+        for slot in self.slots.iter() {
+            slots.push(slot.copy(alloc)?)?;
+        }
+        Ok(EventList {
+            slots,
+            bytes: self.bytes,
+        })
     }
 }
 

@@ -10,10 +10,10 @@ use pws_base::shapes::{GroupId, Number};
 use std::alloc::Global;
 use std::marker::Model;
 
-/// A request of a group to another: its number, the least number whose answer the caller still waits for, and a
-/// body.
+/// A request of a group to another: its number, its low number, and a body.
 ///
-/// The caller is 0 to 15, the numbers are 1 to 1,000,000, and the body has at most 32,768 bytes.
+/// The low number is the least number of a request to that group whose answer the caller's service hasn't taken, this
+/// request included. The caller is 0 to 15, the numbers are 1 to 1,000,000, and the body has at most 32,768 bytes.
 #[derive(Debug, Drop)]
 pub struct Request {
     caller: GroupId,
@@ -46,7 +46,7 @@ impl Request {
         }
     }
 
-    /// The group that asks.
+    /// The group that asks, 0 to 15.
     pub fn caller(&self) -> GroupId
         ensures value { result ≡ self.now.caller }
         ensures lawful { IsRequest self.now }
@@ -54,7 +54,7 @@ impl Request {
         self.caller
     }
 
-    /// The number of the request among those of its caller to this group.
+    /// The number of the request among those of its caller to this group, 1 to 1,000,000.
     pub fn number(&self) -> Number
         ensures value { result ≡ self.now.number }
         ensures lawful { IsRequest self.now }
@@ -62,7 +62,7 @@ impl Request {
         self.number
     }
 
-    /// The least number whose answer the caller still waits for.
+    /// The least number whose answer the caller's service hasn't taken, 1 to 1,000,000.
     pub fn low(&self) -> Number
         ensures value { result ≡ self.now.low }
         ensures lawful { IsRequest self.now }
@@ -70,7 +70,7 @@ impl Request {
         self.low
     }
 
-    /// The body.
+    /// The body, at most 32,768 bytes.
     pub fn body(&self) -> &[u8]
         ensures value { result.now ≡ self.now.body }
         ensures lawful { IsRequest self.now }

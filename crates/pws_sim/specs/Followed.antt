@@ -1,10 +1,13 @@
--- The counters of the replica follow its event list.
-use Rattle.std.specs.Prelude.{◌≡◌, List}
+-- What the replica keeps: its counters follow its event list, whose places all take effect; this project's own.
+use Rattle.std.specs.Prelude.{◌≡◌, ℕ, ◌*◌, ◌≤◌, List, length}
 use Rattle.pws_event.specs.Counters.{Counters, HasTaken}
-use Rattle.pws_event.specs.Lists.{PlacedEvent, whole_events}
-use Rattle.pws_sim.specs.Replica.{layout}
+use Rattle.pws_event.specs.Lists.{PlacedEvent, kept_bytes, whole_events}
+use Rattle.pws_sim.specs.Once.{AllTakeEffect}
+use Rattle.pws_sim.specs.Replica.{two_groups}
 
 pub record Follows (places : List PlacedEvent) (counters : Counters) : Type 0 where
   pub taken : HasTaken counters (whole_events places)
   pub me : counters.me ≡ 1
-  pub layout : counters.layout ≡ layout
+  pub layout : counters.layout ≡ two_groups
+  pub bytes : kept_bytes places ≤ 32782 * length places
+  pub effects : AllTakeEffect 1 two_groups places

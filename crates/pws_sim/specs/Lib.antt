@@ -1,4 +1,5 @@
 pub mod Followed
+pub mod Once
 pub mod Outcomes
 pub mod Replica
 pub mod Reports

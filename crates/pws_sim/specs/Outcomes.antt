@@ -4,15 +4,15 @@ use Rattle.std.specs.Option.{option_map}
 use Rattle.std.specs.Str.{bytes_eq}
 use Rattle.pws_base.specs.Streams.{Rose}
 use Rattle.pws_base.specs.Whole.{Grows, GrowsWithin}
-use Rattle.pws_event.specs.Laws.{TakesEffectOnce}
-use Rattle.pws_event.specs.Requests.{RequestFields}
+use Rattle.pws_event.specs.Lists.{PlacedEvent}
 use Rattle.pws_sched.specs.FirstForm.{first_form}
 use Rattle.pws_sched.specs.declared.statuses.Status.{Status}
 use Rattle.pws_sched.specs.declared.statuses.Status.TheVariants.{Done, Usage, ReadFault, WriteFault, Memory, Unbuilt}
 use Rattle.pws_sim.specs.declared.top.RunError.{RunError}
 use Rattle.pws_sim.specs.declared.top.RunError.TheVariants as run_error
-use Rattle.pws_sim.specs.Replica.{layout, places_after}
+use Rattle.pws_sim.specs.Replica.{two_groups, places_after}
 use Rattle.pws_sim.specs.Reports.{report_of}
+use Rattle.pws_sim.specs.Once.{AllTakeEffect}
 
 -- a status, and the text that is written with it
 pub record Outcome : Type 0 where
@@ -31,6 +31,7 @@ report_on bytes = if nat_lt 67108864 (length bytes) then None else option_map (�
 abbrev pub usage : Outcome
 usage = record { status = Usage; text = codes "usage: pws-sim run, gen NUMBER COUNT or vectors\n" }
 
+-- the outcome of a run with this report, or with none
 abbrev pub outcome_of : Option (List ℕ) → Outcome
 outcome_of None = record { status = Unbuilt; text = codes "not built\n" }
 outcome_of (Some report) = record { status = Done; text = report }
@@ -48,8 +49,8 @@ Ends o held now status = (status ≡ o.status) × Grows held now o.text
 
 -- so it did where the source tells its bytes
 abbrev pub EndsOn : (List ℕ → Outcome) → Option (List ℕ) → Option (List ℕ) → Option (List ℕ) → Status → Type 0
-EndsOn outcome None held now status = Unit {0}
-EndsOn outcome (Some bytes) held now status = Ends (outcome bytes) held now status
+EndsOn ends None held now status = Unit {0}
+EndsOn ends (Some bytes) held now status = Ends (ends bytes) held now status
 
 -- Usage comes exactly where the words are no command, faults of the sink and want of memory aside
 abbrev pub UsageIff : Bool → Status → Type 0
@@ -86,16 +87,15 @@ abbrev pub WriteCaused : Status → ℕ → ℕ → Type 0
 WriteCaused WriteFault before now = Rose before now
 WriteCaused status before now = now ≡ before
 
-abbrev pub OnceIn : Option (List RequestFields) → Type 0
-OnceIn None = Unit {0}
-OnceIn (Some requests) = TakesEffectOnce 1 layout (places_after requests)
+-- a text is the report of an event list at whose places requests take effect
+abbrev pub IsReport : List ℕ → Type 0
+IsReport text = (places : List PlacedEvent) × (text ≡ report_of places) × AllTakeEffect 1 two_groups places
 
--- where a run is done, in the event list that it reports each caller's request takes effect at most once, at one
--- place
-abbrev pub OnceOn : Option (List ℕ) → Status → Type 0
-OnceOn None status = Unit {0}
-OnceOn (Some bytes) Done = OnceIn (first_form bytes)
-OnceOn (Some bytes) status = Unit {0}
+-- so is what a run answers, where it answers a report
+abbrev pub Reports : Result (Option (List ℕ)) RunError → Type 0
+Reports (Ok (Some text)) = IsReport text
+Reports (Ok None) = Unit {0}
+Reports (Err e) = Unit {0}
 
 -- what a run finds over a source that tells its bytes
 abbrev pub RunsOn : Option (List ℕ) → Result (Option (List ℕ)) RunError → Type 0

@@ -11,16 +11,16 @@ pub record ReplicaState : Type 0 where
   pub kept : List RequestFields
   pub places : List PlacedEvent
 
--- both groups of the layout have one replica
-abbrev pub layout : List ℕ
-layout = 0 ∷ 0 ∷ []
+-- the layout of the first form: two groups of one replica each
+abbrev pub two_groups : List ℕ
+two_groups = 0 ∷ 0 ∷ []
 
 abbrev pub start : ReplicaState
 start = record { kept = []; places = [] }
 
 -- the number of the last request of group 0 that took effect
 abbrev pub last_in : List PlacedEvent → ℕ
-last_in places = last_of 0 (effects_in 1 layout places)
+last_in places = last_of 0 (effects_in 1 two_groups places)
 
 -- the kept request of this number
 abbrev pub kept_with : ℕ → List RequestFields → Option RequestFields
@@ -36,7 +36,7 @@ keep s r = if is_kept s r then record s { kept = s.kept ++ r ∷ [] } else s
 
 abbrev pub if_taken : List PlacedEvent → Option RequestFields → Option RequestFields
 if_taken places None = None
-if_taken places (Some r) = if takes_effect 1 layout (effects_in 1 layout places) (event.Request r) then Some r else None
+if_taken places (Some r) = if takes_effect 1 two_groups (effects_in 1 two_groups places) (event.Request r) then Some r else None
 
 -- the kept request of the next number, where it would take effect and the list has fewer than 32 places
 abbrev pub next_of : ReplicaState → Option RequestFields

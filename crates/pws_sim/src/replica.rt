@@ -33,9 +33,13 @@ impl Model for Replica {
     ghost invariant = { λ r. Follows r.events r.effect };
 }
 
-ghost use Rattle.std.specs.Prelude.{◌≡◌, ◌<◌, ◌≤◌, ◌==◌, length, OnOk};
+ghost use Rattle.std.specs.Prelude.{◌≡◌, ◌<◌, ◌≤◌, ◌==◌, length, OnOk, IsTrue, None};
 ghost use Rattle.std.specs.Option.{option_copied};
-ghost use Rattle.pws_sim.specs.Replica.{layout, start, last_in, kept_with, is_kept, keep, next_of, push, hear};
+ghost use Rattle.pws_event.specs.declared.events.Event.{Event};
+ghost use Rattle.pws_event.specs.Effects.{takes_effect};
+ghost use Rattle.pws_event.specs.Lists.{effects_in};
+ghost use Rattle.pws_sim.specs.Once.{AllTakeEffect};
+ghost use Rattle.pws_sim.specs.Replica.{two_groups, start, last_in, kept_with, is_kept, keep, next_of, push, hear};
 
 fn has_number(request: &Request, number: Number) -> bool
     ensures { result ≡ (request.now.number == number) }
@@ -45,7 +49,7 @@ fn has_number(request: &Request, number: Number) -> bool
 
 /// The layout of the first form: two groups of one replica each.
 fn two_groups() -> Layout
-    ensures { result ≡ layout }
+    ensures { result ≡ two_groups }
 {
     let Ok(single) = GroupShape::new(0) else {
         unreachable!()
@@ -68,10 +72,12 @@ impl Replica {
         }
     }
 
-    /// Its event list.
+    /// Its event list, whose places all take effect.
     pub fn events(&self) -> &EventList
-        ensures { result.now ≡ self.now.places }
+        ensures value { result.now ≡ self.now.places }
+        ensures taken { AllTakeEffect 1 two_groups self.now.places }
     {
+        let _effect = &self.effect;
         &self.events
     }
 
@@ -80,9 +86,12 @@ impl Replica {
     /// # Errors
     ///
     /// `Memory` only.
-    #[tactic(auto, using(crate::proofs::Pushes::pushes_more, crate::proofs::Pushes::pushes_done, crate::proofs::Pushes::pushes_zero))]
+    #[tactic(auto, using(crate::proofs::Pushes::pushes_more, crate::proofs::Pushes::pushes_done, crate::proofs::Pushes::pushes_zero, crate::proofs::Pushes::pushes_end))]
     pub fn hear(&mut self, alloc: Global, request: Request) -> Result<(), Memory>
-        ensures { OnOk result (self.new ≡ hear self.old request) }
+        ensures heard { OnOk result (self.new ≡ hear self.old request) }
+
+        // No request is left that could be pushed.
+        ensures rest { OnOk result (next_of self.new ≡ None) }
     {
         self.keep(request)?;
         for _ in 0..32u32 {
@@ -147,12 +156,14 @@ impl Replica {
         }
     }
 
-    /// Pushes a request at the next place.
+    /// Pushes a request that takes effect at the next place.
     #[tactic(auto, unfolding(crate::specs::Replica::push))]
     fn push(&mut self, alloc: Global, request: Request) -> Result<(), Memory>
-        requires { length self.old.places < 32 }
+        requires room { length self.old.places < 32 }
+        requires takes { IsTrue (takes_effect 1 two_groups (effects_in 1 two_groups self.old.places) (Event.Request request)) }
         ensures { OnOk result (self.new ≡ push self.old request) }
     {
+        let _number = request.number();
         match self.events.push(alloc, Event::Request(request)) {
             Ok(_) => {}
             Err(PushError::Memory) => return Err(Memory),

@@ -3,7 +3,8 @@
 ghost use Rattle.std.specs.Prelude.{◌≡◌, map, IfOk};
 ghost use Rattle.pws_sim.specs.Replica.{places_after};
 ghost use Rattle.pws_sim.specs.Reports.{report_of};
-ghost use Rattle.pws_sim.specs.Outcomes.{outcome, is_run, EndsOn, UsageIff, UnbuiltOn, ReadCaused, WriteCaused, OnceOn, RunsOn, RunCaused};
+ghost use Rattle.pws_sim.specs.Outcomes.{outcome, is_run, EndsOn, UsageIff, UnbuiltOn, ReadCaused, WriteCaused, RunsOn, RunCaused, IsReport, Reports};
+ghost use Rattle.pws_sim.specs.Once.{OnceOn};
 
 use crate::replica::Replica;
 use crate::reports::report_of;
@@ -23,13 +24,16 @@ use std::alloc::Global;
 /// The words are those after the program's name. The one command that is built is `run`. Each status comes with
 /// its text, by docs/FORMATS.md:
 ///
-/// - `Done` and the report, where the source gives a schedule of the first form;
-/// - `Usage` and the usage line, exactly where the words aren't the one word `run`;
-/// - `Unbuilt` and `not built`, exactly where the source gives more than 64 MiB or no schedule of the first form;
+/// - `Usage` and the usage line, exactly where the words aren't the one word `run`; then nothing is read;
+/// - `Done` and the report, where the words are `run` and the source gives a schedule of the first form;
+/// - `Unbuilt` and `not built`, exactly where the words are `run`, the source didn't fail, and it gives more than
+///   64 MiB or no schedule of the first form;
 /// - `ReadFault` and nothing, only where the source's faults rose in this call;
 /// - `WriteFault` and a prefix of the text, only where the sink's faults rose in this call;
 /// - `Memory` and a prefix of the text.
-#[tactic(auto, using(crate::proofs::Done::once_on))]
+///
+/// The first three yield to `WriteFault` and to `Memory`.
+#[tactic(auto, using(crate::proofs::Done::reports_once))]
 pub fn sim_main<S: Source, K: Sink>(
     alloc: Global,
     words: &[&str],
@@ -45,8 +49,8 @@ pub fn sim_main<S: Source, K: Sink>(
     ensures read_fault { ReadCaused result (S.faults source.old) (S.faults source.new) }
     ensures write_fault { WriteCaused result (K.faults sink.old) (K.faults sink.new) }
 
-    // Each caller's request takes effect at most once, at one place.
-    ensures once { OnceOn (S.left source.old) result }
+    // The report is that of an event list in which each caller's request takes effect at most once, at one place.
+    ensures once { OnceOn (K.held sink.old) (K.held sink.new) result }
 {
     effects_are_once();
     if !is_run(words) {
@@ -86,6 +90,7 @@ enum RunError {
 /// The report on what the source gives, or nothing where that is too long or no schedule of the first form.
 fn run<S: Source>(alloc: Global, source: &mut S) -> Result<Option<Bytes>, RunError>
     ensures told { RunsOn (S.left source.old) result }
+    ensures report { Reports result }
     ensures cause { RunCaused result (S.faults source.old) (S.faults source.new) }
 {
     let text = match read_all(alloc, source, 67108864) {
@@ -99,15 +104,16 @@ fn run<S: Source>(alloc: Global, source: &mut S) -> Result<Option<Bytes>, RunErr
         Err(FirstFormError::NotFirstForm) => return Ok(None),
         Err(FirstFormError::Memory) => return Err(RunError::Memory),
     };
-    match report_on(alloc, requests.into_vec()) {
+    match replayed(alloc, requests.into_vec()) {
         Ok(report) => Ok(Some(report)),
         Err(Memory) => Err(RunError::Memory),
     }
 }
 
 /// The report once the replica heard these requests in turn.
-fn report_on(alloc: Global, requests: Vec<Request>) -> Result<Bytes, Memory>
-    ensures { IfOk result (λ text. text ≡ report_of (places_after requests.items)) }
+fn replayed(alloc: Global, requests: Vec<Request>) -> Result<Bytes, Memory>
+    ensures report { IfOk result (λ text. text ≡ report_of (places_after requests.items)) }
+    ensures taken { IfOk result IsReport }
 {
     let mut replica = Replica::new(alloc);
     for request in requests {
