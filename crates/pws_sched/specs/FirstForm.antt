@@ -30,9 +30,13 @@ after_seed text = do
   seed ← bytes_at 64 text
   if list_all is_lower_digit seed.0 then Some seed.1 else None
 
+-- whether a byte is the line feed
+abbrev pub is_line_feed : ℕ → Bool
+is_line_feed byte = byte == 10
+
 -- the pieces of a text between its line feeds
 abbrev pub lines_of : List ℕ → List (List ℕ)
-lines_of text = slice_split (λ b. b == 10) text
+lines_of text = slice_split is_line_feed text
 
 -- whether the numbers and the length of the body of a request are in range
 abbrev pub in_range : ℕ → ℕ → ℕ → Bool
