@@ -16,8 +16,10 @@ use thiserror::Error;
 /// Why no schedule was read.
 #[derive(Clone, Copy, Debug, PartialEq, Eq, Error)]
 pub enum FirstFormError {
+    /// The text isn't a schedule of the first form.
     #[error("not a schedule of the first form")]
     NotFirstForm,
+    /// There was no memory.
     #[error("out of memory")]
     Memory,
 }
@@ -68,9 +70,9 @@ impl From<Short> for FirstFormError {
 
 impl From<HexError> for FirstFormError {
     ghost use Rattle.std.specs.Prelude.{◌≡◌};
-    ghost use Rattle.pws_sched.specs.FirstFormErrors.{error_of};
+    ghost use Rattle.pws_sched.specs.FirstFormErrors.{form_error_of};
 
-    ghost from_gives = { λ h e. e ≡ error_of h };
+    ghost from_gives = { λ h e. e ≡ form_error_of h };
 
     fn from(error: HexError) -> FirstFormError {
         match error {
