@@ -1,4 +1,4 @@
--- The first form of a schedule, and the requests that it says; this project's own.
+-- The first form of a schedule, and the requests that it says; this project's own rule.
 use Rattle.std.specs.Prelude.{◌≡◌, ℕ, Bool, false, ◌&&◌, nat_le, ◌==◌, if◌then◌else◌, List, [], ◌∷◌, length, take, drop, codes, Option, Some, None, Result, Ok, Err}
 use Rattle.std.specs.List.{list_all, slice_split}
 use Rattle.std.specs.Option.{option_map}
@@ -15,6 +15,7 @@ Gives view (Ok x) wanted = wanted ≡ Some (view x)
 Gives view (Err form_error.NotFirstForm) wanted = wanted ≡ None
 Gives view (Err form_error.Memory) wanted = Unit {0}
 
+-- the second step, on what the first gave, or nothing where it gave nothing
 infixl 10 ◌>>=◌
 abbrev pub ◌>>=◌ : {A B : Type 0} → Option A → (A → Option B) → Option B
 Some x >>= f = f x
@@ -30,11 +31,15 @@ after_seed text = do
   seed ← bytes_at 64 text
   if list_all is_lower_digit seed.0 then Some seed.1 else None
 
+-- whether a byte is the line feed
+abbrev pub is_line_feed : ℕ → Bool
+is_line_feed byte = byte == 10
+
 -- the pieces of a text between its line feeds
 abbrev pub lines_of : List ℕ → List (List ℕ)
-lines_of text = slice_split (λ b. b == 10) text
+lines_of text = slice_split is_line_feed text
 
--- whether the numbers and the length of the body of a request are in range
+-- whether the numbers and the length of the body of a request are in range: the ranges of `IsRequest`, as a test
 abbrev pub in_range : ℕ → ℕ → ℕ → Bool
 in_range number low size = nat_le 1 number && nat_le number 1000000 && nat_le 1 low && nat_le low 1000000 && nat_le size 32768
 
@@ -60,6 +65,7 @@ abbrev pub is_last : List (List ℕ) → Bool
 is_last (line ∷ []) = length line == 0
 is_last lines = false
 
+-- the first request before the rest, where there are both
 abbrev pub with_first : Option RequestFields → Option (List RequestFields) → Option (List RequestFields)
 with_first first rest = first >>= λ r. option_map (λ more. r ∷ more) rest
 

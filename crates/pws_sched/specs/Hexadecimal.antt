@@ -1,4 +1,4 @@
--- Lower-case hexadecimal (base 16 of RFC 4648, with the lower-case digits alone).
+-- Lower-case hexadecimal: RFC 4648 section 8 (base 16), with the digits in lower case alone.
 use Rattle.std.specs.Prelude.{◌≡◌, ℕ, Bool, nat_le, ◌&&◌, ◌||◌, if◌then◌else◌, List, Option, Some, None, Result, Ok, Err}
 use Rattle.std.specs.List.{list_all}
 use Rattle.std.specs.Result.{result_ok}

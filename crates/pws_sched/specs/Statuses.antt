@@ -1,8 +1,9 @@
--- The exit statuses of the simulator; this project's own.
+-- The exit statuses of the simulator; this project's own rule.
 use Rattle.std.specs.Prelude.{ℕ}
 use Rattle.pws_sched.specs.declared.statuses.Status.{Status}
 use Rattle.pws_sched.specs.declared.statuses.Status.TheVariants.{Done, Usage, ReadFault, WriteFault, Memory, Unbuilt}
 
+-- the exit status that stands for each way to end
 abbrev pub code_of : Status → ℕ
 code_of Done = 0
 code_of Usage = 2

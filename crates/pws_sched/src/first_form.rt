@@ -1,7 +1,8 @@
 //! The first form of a schedule: the requests of one caller to one replica.
 
-ghost use Rattle.std.specs.Prelude.{◌≡◌, map, IfOk};
-ghost use Rattle.pws_sched.specs.FirstForm.{Gives, after, after_seed, lines_of, request_of, said_by, is_last, moves_of, first_form};
+ghost use Rattle.std.specs.Prelude.{◌≡◌, ◌<◌, [], ◌∷◌, length, MatchOption, IfSome};
+ghost use Rattle.std.specs.List.{position};
+ghost use Rattle.pws_sched.specs.FirstForm.{Gives, after, after_seed, is_line_feed, lines_of, request_of, said_by, moves_of, first_form};
 
 use crate::hexadecimal::{HexError, decode_lower, is_lower_hex};
 use pws_base::bytes::Bytes;
@@ -15,8 +16,10 @@ use thiserror::Error;
 /// Why no schedule was read.
 #[derive(Clone, Copy, Debug, PartialEq, Eq, Error)]
 pub enum FirstFormError {
+    /// The text isn't a schedule of the first form.
     #[error("not a schedule of the first form")]
     NotFirstForm,
+    /// There was no memory.
     #[error("out of memory")]
     Memory,
 }
@@ -67,9 +70,9 @@ impl From<Short> for FirstFormError {
 
 impl From<HexError> for FirstFormError {
     ghost use Rattle.std.specs.Prelude.{◌≡◌};
-    ghost use Rattle.pws_sched.specs.FirstFormErrors.{error_of};
+    ghost use Rattle.pws_sched.specs.FirstFormErrors.{form_error_of};
 
-    ghost from_gives = { λ h e. e ≡ error_of h };
+    ghost from_gives = { λ h e. e ≡ form_error_of h };
 
     fn from(error: HexError) -> FirstFormError {
         match error {
@@ -106,36 +109,39 @@ fn read_say(alloc: Global, line: &[u8]) -> Result<Request, FirstFormError>
     }
 }
 
-/// Whether only the end of the text follows.
-fn is_last(lines: &[&[u8]]) -> bool
-    ensures { result ≡ is_last (map (λ l. l.now) lines.now) }
+/// The place of the first line feed.
+fn find_line_feed(text: &[u8]) -> Option<usize>
+    ensures { result ≡ position is_line_feed text.now }
 {
-    lines.len() == 1 && lines[0].is_empty()
+    text.iter().position(|c| *c == b'\n')
 }
 
-/// The requests that the lines up to `end` say.
-fn read_moves(alloc: Global, lines: &[&[u8]]) -> Result<Sequence<Request>, FirstFormError>
-    ensures { Gives (λ r. r) result (moves_of (map (λ l. l.now) lines.now)) }
+/// The first line of a text and what follows its line feed.
+fn split_line(text: &[u8]) -> Option<(&[u8], &[u8])>
+    ensures lines { MatchOption result (lines_of text.now ≡ text.now ∷ []) (λ x. lines_of text.now ≡ x.0.now ∷ lines_of x.1.now) }
+    ensures shorter { IfSome result (λ x. length x.1.now < length text.now) }
+{
+    let at = find_line_feed(text)?;
+    Some((&text[..at], &text[at + 1..]))
+}
+
+/// The requests that the lines up to `end` say, one line at a time, and none past the first that isn't in the form.
+fn read_moves(alloc: Global, text: &[u8]) -> Result<Sequence<Request>, FirstFormError>
+    ensures { Gives (λ r. r) result (moves_of (lines_of text.now)) }
 {
     let mut requests = Vec::new(alloc);
-    for i in 0..lines.len() {
-        let line = lines[i];
+    let mut rest = text;
+    while let Some((line, others)) = split_line(rest) {
         if line == b"end".as_slice() {
-            if is_last(&lines[i + 1..]) {
+            if others.is_empty() {
                 return Ok(Sequence::from_vec(requests));
             }
             return Err(FirstFormError::NotFirstForm);
         }
         requests.push(read_say(alloc, line)?)?;
+        rest = others;
     }
     Err(FirstFormError::NotFirstForm)
-}
-
-/// The pieces of a text between its line feeds.
-fn split_lines(alloc: Global, text: &[u8]) -> Result<Vec<&[u8]>, AllocError>
-    ensures { IfOk result (λ v. map (λ l. l.now) v.items ≡ lines_of text.now) }
-{
-    text.split(|c| *c == b'\n').collect(alloc)
 }
 
 /// What follows these bytes, where the text begins with them.
@@ -170,6 +176,5 @@ pub fn read_first_form(alloc: Global, text: &[u8]) -> Result<Sequence<Request>, 
     let text = expect(text, b"pws-schedule 1\nseed ")?;
     let text = expect_seed(text)?;
     let text = expect(text, b"\ngroup 0 0\ngroup 1 0\nbad 0.0\nbegin\n")?;
-    let lines = split_lines(alloc, text)?;
-    read_moves(alloc, &lines)
+    read_moves(alloc, text)
 }

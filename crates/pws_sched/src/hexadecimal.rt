@@ -11,17 +11,19 @@ use thiserror::Error;
 /// Why no bytes were read from a text.
 #[derive(Clone, Copy, Debug, PartialEq, Eq, Error)]
 pub enum HexError {
+    /// Another character than a digit `0` to `9` or `a` to `f` stands in the text, or the count of digits is odd.
     #[error("not lower-case hexadecimal")]
     NotHexadecimal,
+    /// There was no memory.
     #[error("out of memory")]
     Memory,
 }
 
 impl From<FromHexError> for HexError {
     ghost use Rattle.std.specs.Prelude.{◌≡◌};
-    ghost use Rattle.pws_sched.specs.HexErrors.{error_of};
+    ghost use Rattle.pws_sched.specs.HexErrors.{hex_error_of};
 
-    ghost from_gives = { λ h e. e ≡ error_of h };
+    ghost from_gives = { λ h e. e ≡ hex_error_of h };
 
     fn from(error: FromHexError) -> HexError {
         match error {

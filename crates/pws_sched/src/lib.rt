@@ -11,4 +11,5 @@
 
 pub mod first_form;
 pub mod hexadecimal;
+pub mod laws;
 pub mod statuses;

@@ -7,7 +7,7 @@ ghost use Rattle.std.specs.Prelude.{◌≡◌};
 pub enum Status {
     /// The schedule was replayed to its end.
     Done,
-    /// The words are no command.
+    /// The words aren't the one word `run`.
     Usage,
     /// The source failed.
     ReadFault,
@@ -15,7 +15,8 @@ pub enum Status {
     WriteFault,
     /// There was no memory.
     Memory,
-    /// The input isn't a schedule of the first form, the only one that is built yet.
+    /// The words are `run`, and the input passes 64 MiB or isn't a schedule of the first form, the only one that is
+    /// built yet.
     Unbuilt,
 }
 
