@@ -16,8 +16,8 @@ is_report (Err memory) places listed h e taken = tt
 
 pub reports_once : (held now : Option (List ℕ)) (text : List ℕ) → Grows held now text → IsReport text → EffectsAreOnce → ReportsOnce held now
 reports_once held now text grows report law = record {
-    places = report.0;
-    written = subst (Grows held now) report.1 grows;
-    taken = report.2;
-    once = law 1 two_groups report.0;
-  }
+  places = report.0;
+  written = subst (Grows held now) report.1 grows;
+  taken = report.2;
+  once = law 1 two_groups report.0;
+}

@@ -1,17 +1,16 @@
 -- Every place of the replica's list holds a request that takes effect there.
-use Rattle.std.proofs.Common.{◌≡◌, ◌⊎◌, inl, inr, ℕ, zero, suc, ◌+◌, ◌-◌, ◌*◌, ◌^◌, ◌<◌, ◌≤◌, Bool, true, false, cond, List, [], ◌∷◌, ◌++◌, length, take, slice_get, sum_by, Option, Some, None, refl, sym, ◌∙◌, ap, subst, arith, add-zero, nat_eq, nat_lt, length-append}
+use Rattle.std.proofs.Common.{◌≡◌, inl, inr, ℕ, zero, suc, ◌+◌, ◌-◌, ◌*◌, ◌^◌, ◌<◌, ◌≤◌, true, false, cond, List, [], ◌∷◌, ◌++◌, length, take, slice_get, Option, Some, None, refl, ◌∙◌, ap, arith, nat_eq, length-append}
 use Rattle.std.specs.Option.{option_and_then, option_map_or}
 use Rattle.std.proofs.lemmas.Bool.{cases_lt}
 use Rattle.std.proofs.lemmas.Bool.Decides.{nat_tests}
 use Rattle.std.proofs.lemmas.List.{take-append-le}
 use Rattle.std.proofs.lemmas.List.Sums.{sum_by-append}
 use Rattle.std.proofs.Math.Seq.{take-append_seam}
-use Rattle.pws_base.specs.Texts.{u32_text, sized_text}
+use Rattle.pws_base.specs.Texts.{u32_text}
 use Rattle.pws_event.specs.Requests.{RequestFields, IsRequest}
-use Rattle.pws_event.specs.Events.{event_text, request_text}
+use Rattle.pws_event.specs.Events.{event_text}
 use Rattle.pws_event.specs.Effects.{takes_effect}
 use Rattle.pws_event.specs.Lists.{PlacedEvent, event_at, placed, text_length, kept_bytes, would_pass, effects_in}
-use Rattle.pws_event.specs.Laws.{TakesEffectAt}
 use Rattle.pws_event.specs.declared.events.Event.{Event}
 use Rattle.pws_event.specs.declared.events.Event.TheVariants as event
 use Rattle.pws_sim.specs.Once.{AllTakeEffect}
@@ -73,16 +72,20 @@ all_more me layout places more p r m e t all place h k =
     elim (cases_lt place (length more)) [
       | inl below ↦
           let old = all place h (omega (arith, count, below)) in
-          let front : take (place - 1) more ≡ take (place - 1) places = ap (take (place - 1)) m ∙ take-append-le (place - 1) places (p ∷ []) (omega (arith, count, below)) in
-          (old.0, record {
-            stands = ap (λ xs. event_at xs place) m ∙ (front_event places p place h (omega (arith, count, below)) ∙ old.1.stands);
-            takes = ap (λ xs. takes_effect me layout (effects_in me layout xs) (event.Request old.0)) front ∙ old.1.takes;
-          })
+          let front : take (place - 1) more ≡ take (place - 1) places = ap (take (place - 1)) m ∙ take-append-le (place - 1) places (p ∷ []) (omega (arith, count, below)) in (
+            old.0,
+            record {
+              stands = ap (λ xs. event_at xs place) m ∙ (front_event places p place h (omega (arith, count, below)) ∙ old.1.stands);
+              takes = ap (λ xs. takes_effect me layout (effects_in me layout xs) (event.Request old.0)) front ∙ old.1.takes;
+            },
+          )
       | inr top ↦
           let last : place ≡ length more = omega (arith, k, top) in
-          let whole : take (place - 1) more ≡ places = ap (λ n. take n more) (omega (arith, count, last)) ∙ (ap (take (length places)) m ∙ take-append_seam places (p ∷ [])) in
-          (r, record {
-            stands = last_event places more p place m last ∙ e;
-            takes = ap (λ xs. takes_effect me layout (effects_in me layout xs) (event.Request r)) whole ∙ t;
-          })
+          let whole : take (place - 1) more ≡ places = ap (λ n. take n more) (omega (arith, count, last)) ∙ (ap (take (length places)) m ∙ take-append_seam places (p ∷ [])) in (
+            r,
+            record {
+              stands = last_event places more p place m last ∙ e;
+              takes = ap (λ xs. takes_effect me layout (effects_in me layout xs) (event.Request r)) whole ∙ t;
+            },
+          )
     ]

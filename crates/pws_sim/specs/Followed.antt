@@ -1,5 +1,5 @@
 -- What the replica keeps: its counters follow its event list, whose places all take effect; this project's own.
-use Rattle.std.specs.Prelude.{◌≡◌, ℕ, ◌*◌, ◌≤◌, List, length}
+use Rattle.std.specs.Prelude.{◌≡◌, ◌*◌, ◌≤◌, List, length}
 use Rattle.pws_event.specs.Counters.{Counters, HasTaken}
 use Rattle.pws_event.specs.Lists.{PlacedEvent, kept_bytes, whole_events}
 use Rattle.pws_sim.specs.Once.{AllTakeEffect}
