@@ -9,6 +9,8 @@ use std::fmt;
 use std::marker::Model;
 
 /// Bytes on the heap, which contracts see as a list of numbers.
+///
+/// `copy` answers `Memory` where there is none; `clone` is std's, for derives.
 #[derive(Drop)]
 pub struct Bytes {
     items: Vec<u8>,
@@ -19,11 +21,6 @@ impl Model for Bytes {
 
     ghost view = { λ b. b.items.items };
 }
-
-/// Bytes are below 256, which a `u8` says by its type.
-fn fit(bytes: &[u8])
-    ensures { (i : ℕ) → slice_index bytes.now i < 256 }
-{}
 
 impl Bytes {
     /// No bytes.
@@ -131,3 +128,8 @@ impl fmt::Debug for Bytes {
         fmt::Debug::fmt(&self.items, f)
     }
 }
+
+/// Bytes are below 256, which a `u8` says by its type.
+fn fit(bytes: &[u8])
+    ensures { (i : ℕ) → slice_index bytes.now i < 256 }
+{}

@@ -9,8 +9,8 @@
 //!   failing calls are listed, and `standard` adapts the readers and writers of std. `whole` reads and writes
 //!   whole texts over any of them.
 //!
-//! The one contract that all above rely on: a call on the outside answers a fault exactly where that object's
-//! count of faults rose, so a program that claims a fault which never came isn't proved.
+//! The one contract that all above rely on: a call on the outside answers a fault only where that object's count of
+//! faults rose, so a program that claims a fault which never came isn't proved.
 #![tactic(auto)]
 
 pub mod bytes;

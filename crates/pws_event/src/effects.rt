@@ -55,6 +55,7 @@ impl Effect {
         ensures me { result.me ≡ me }
         ensures layout { result.layout ≡ layout.now }
     {
+        // a layout has at most 16 groups, as many as there are counters
         let _groups = layout.groups();
         Effect {
             me,

@@ -7,18 +7,20 @@ use Rattle.pws_event.specs.Lists.{PlacedEvent}
 use Rattle.pws_event.specs.declared.events.Event.{Event}
 use Rattle.pws_event.specs.declared.events.Event.TheVariants as event
 
+-- a request that took effect
 abbrev pub request_words : RequestFields → List ℕ
-request_words r = codes "request " ++ decimal r.caller ++ codes " " ++ decimal r.number
+request_words r = codes "request " ++ decimal r.caller ++ codes " " ++ decimal r.number ++ codes " taken"
 
--- what stands at a place
+-- what stands at a place, and that it took effect: a bare place and Null never do, and the requests of the replica's
+-- list always do
 abbrev pub what_of : Option Event → List ℕ
-what_of None = codes "bare"
-what_of (Some event.Null) = codes "null"
+what_of None = codes "bare void"
+what_of (Some event.Null) = codes "null void"
 what_of (Some (event.Request r)) = request_words r
 
 -- a place's number, what stands there, and its digest in hexadecimal
 abbrev pub place_line : ℕ → PlacedEvent → List ℕ
-place_line place p = codes "place " ++ decimal place ++ codes " " ++ what_of p.event ++ codes " taken " ++ encode_lower p.digest ++ codes "\n"
+place_line place p = codes "place " ++ decimal place ++ codes " " ++ what_of p.event ++ codes " " ++ encode_lower p.digest ++ codes "\n"
 
 -- the lines of the places, which are numbered from 1
 abbrev pub place_lines : List PlacedEvent → List ℕ

@@ -77,6 +77,7 @@ impl Replica {
         ensures value { result.now ≡ self.now.places }
         ensures taken { AllTakeEffect 1 two_groups self.now.places }
     {
+        // the use of a field shows what the replica keeps
         let _effect = &self.effect;
         &self.events
     }
@@ -163,6 +164,7 @@ impl Replica {
         requires takes { IsTrue (takes_effect 1 two_groups (effects_in 1 two_groups self.old.places) (Event.Request request)) }
         ensures { OnOk result (self.new ≡ push self.old request) }
     {
+        // reading it shows that the request is in range
         let _number = request.number();
         match self.events.push(alloc, Event::Request(request)) {
             Ok(_) => {}

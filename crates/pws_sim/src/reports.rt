@@ -13,22 +13,22 @@ use pws_event::lists::EventList;
 use pws_event::requests::Request;
 use std::alloc::Global;
 
-/// The words for a request.
+/// The words for a request that took effect.
 fn request_words(alloc: Global, request: &Request) -> Result<String, Memory>
     ensures { IfOk result (λ words. string_bytes words ≡ request_words request.now) }
 {
     let caller = request.caller();
     let number = request.number();
-    Ok(format!(in alloc; "request {caller} {number}")?)
+    Ok(format!(in alloc; "request {caller} {number} taken")?)
 }
 
-/// The words for what stands at a place.
+/// The words for what stands at a place, and whether it took effect.
 fn what_of(alloc: Global, event: Option<&Event>) -> Result<String, Memory>
     ensures { IfOk result (λ words. string_bytes words ≡ what_of (option_copied event.entry)) }
 {
     match event {
-        None => Ok(format!(in alloc; "bare")?),
-        Some(Event::Null) => Ok(format!(in alloc; "null")?),
+        None => Ok(format!(in alloc; "bare void")?),
+        Some(Event::Null) => Ok(format!(in alloc; "null void")?),
         Some(Event::Request(request)) => request_words(alloc, request),
     }
 }
@@ -44,7 +44,7 @@ fn place_line(
 {
     let what = what_of(alloc, event)?;
     let digest = hex::encode(alloc, digest)?;
-    Ok(format!(in alloc; "place {place} {what} taken {digest}\n")?)
+    Ok(format!(in alloc; "place {place} {what} {digest}\n")?)
 }
 
 /// The report on an event list, by docs/FORMATS.md.

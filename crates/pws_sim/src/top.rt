@@ -24,7 +24,7 @@ use std::alloc::Global;
 /// The words are those after the program's name. The one command that is built is `run`. Each status comes with
 /// its text, by docs/FORMATS.md:
 ///
-/// - `Usage` and the usage line, exactly where the words aren't the one word `run`; then nothing is read;
+/// - `Usage` and the usage line, exactly where the words aren't the one word `run`;
 /// - `Done` and the report, where the words are `run` and the source gives a schedule of the first form;
 /// - `Unbuilt` and `not built`, exactly where the words are `run`, the source didn't fail, and it gives more than
 ///   64 MiB or no schedule of the first form;

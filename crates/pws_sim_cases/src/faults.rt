@@ -1,7 +1,7 @@
 //! Runs in which a call on the source or the sink fails.
 
+use crate::replayed::ZEROS;
 use crate::runs::head;
-use crate::tables::ZEROS;
 use pws_base::memory_streams::{MemorySink, MemorySource};
 use pws_sched::statuses::Status;
 use pws_sim::sim_main;

@@ -7,6 +7,10 @@
 #[cfg(test)]
 mod faults;
 #[cfg(test)]
-mod runs;
+mod forty;
 #[cfg(test)]
-mod tables;
+mod refused;
+#[cfg(test)]
+mod replayed;
+#[cfg(test)]
+mod runs;

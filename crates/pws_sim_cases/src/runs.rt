@@ -1,9 +1,8 @@
 //! Runs over sources that give all their bytes.
 
-use crate::tables::{
-    Replayed, ZEROS, edges, few_requests, forty_requests, forty_requests_twice, refused_texts,
-    unknown_words,
-};
+use crate::forty::{forty_requests, forty_requests_twice};
+use crate::refused::{refused_texts, unknown_words};
+use crate::replayed::{Replayed, ZEROS, edges, few_requests};
 use pws_base::memory::Memory;
 use pws_base::memory_streams::{MemorySink, MemorySource};
 use pws_sched::statuses::Status;
