@@ -19,6 +19,12 @@ pub type View = u32;
 /// The number of a request or a call, from 1.
 pub type Number = u32;
 
+/// A SHA-256 digest.
+pub type Digest = [u8; 32];
+
+/// A tag: the HMAC with SHA-256 that one replica gives another with a content.
+pub type Tag = [u8; 32];
+
 /// A replica, by its group and its index within the group, from 0.
 #[derive(Clone, Copy, Debug, PartialEq, Eq, PartialOrd, Ord)]
 pub struct ReplicaId {
