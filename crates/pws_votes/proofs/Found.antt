@@ -18,7 +18,7 @@ use Rattle.pws_votes.specs.ListBooks.{votes_in, key_of, row_of, is_same_kind, is
 pub keys_total : IsTotalOrder key_cmp
 keys_total = then_total (on_total (λ k. number_of k.kind) nat_cmp_total) (then_total (on_total (λ (k : Key). k.place) nat_cmp_total) (on_total (λ (k : Key). k.voter) nat_cmp_total))
 
-kind_is : (a b : VoteKind) → number_of a ≡ number_of b → a ≡ b
+pub kind_is : (a b : VoteKind) → number_of a ≡ number_of b → a ≡ b
 kind_is Prepare Prepare h = refl
 kind_is Commit Commit h = refl
 kind_is Checkpoint Checkpoint h = refl
@@ -58,12 +58,12 @@ kinds_are Commit Checkpoint h = absurd (cc)
 kinds_are Checkpoint Prepare h = absurd (cc)
 kinds_are Checkpoint Commit h = absurd (cc)
 
-both : (a b : Bool) → a && b ≡ true → (a ≡ true) × (b ≡ true)
+pub both : (a b : Bool) → a && b ≡ true → (a ≡ true) × (b ≡ true)
 both true true h = (refl, refl)
 both true false h = absurd (cc)
 both false b h = absurd (cc)
 
-keys_are : (a b : Key) → is_same_key a b ≡ true → a ≡ b
+pub keys_are : (a b : Key) → is_same_key a b ≡ true → a ≡ b
 keys_are a b h =
     let p = both (is_same_kind a.kind b.kind && nat_eq a.place b.place) (nat_eq a.voter b.voter) h in
     let q = both (is_same_kind a.kind b.kind) (nat_eq a.place b.place) p.0 in
@@ -72,7 +72,7 @@ keys_are a b h =
     let vo : a.voter ≡ b.voter = grind (arith, nat_tests) in
     λ i. record { kind = k i; place = pl i; voter = vo i }
 
-key_itself : (a : Key) → is_same_key a a ≡ true
+pub key_itself : (a : Key) → is_same_key a a ≡ true
 key_itself a = rw kind_itself (grind (arith, nat_tests))
 
 pub self_test : (a : Key) → eq_by_cmp key_cmp a a ≡ true

@@ -1,6 +1,7 @@
 //! Books of votes.
 
 ghost use Rattle.std.specs.Prelude.{◌≡◌, ◌≤◌, IfOk, OnOk, OnErr};
+ghost use Rattle.std.specs.FinMap.{len};
 ghost use Rattle.pws_votes.specs.Votes.{Book, key, new_book, answer_to, after_vote, has_vote, without_view, raised_to, matching_of};
 
 use crate::kinds::{Vote, VoteKind};
@@ -52,6 +53,11 @@ pub trait VoteBook: ExactCopy {
     /// How many voters have a vote of this kind at this place for this digest.
     fn matching(&self, kind: VoteKind, place: Place, digest: &Digest) -> u8
         ensures { result ≡ matching_of (book self.now) kind place digest.now };
+
+    /// How many votes it has.
+    fn count(&self) -> usize
+        ensures value { result ≡ len (book self.now).votes }
+        ensures few { result ≤ 960 };
 
     /// Leaves the view: drops `Prepare` and `Commit`.
     fn clear_view(&mut self)

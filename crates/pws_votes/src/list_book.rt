@@ -35,13 +35,15 @@ pub struct ListBook {
 
 impl Model for ListBook {
     ghost use Rattle.pws_votes.specs.Votes.{Book, book_code};
-    ghost use Rattle.pws_votes.specs.ListBooks.{votes_in};
+    ghost use Rattle.pws_votes.specs.ListBooks.{votes_in, IsKept};
 
     ghost Value = { Book };
 
     ghost coded = { book_code };
 
     ghost view = { λ b. record { f = b.shape; low = b.low; votes = votes_in b.entries.items } };
+
+    ghost invariant = { λ b. IsKept b.shape b.low b.entries.items };
 }
 
 /// Whether two kinds are one.
@@ -189,12 +191,15 @@ impl VoteBook for ListBook {
         count
     }
 
+    fn count(&self) -> usize {
+        self.entries.len()
+    }
+
     #[tactic(auto, using(crate::proofs::Found::filtered_kind))]
     fn clear_view(&mut self) {
         keep_checkpoints(&mut self.entries);
     }
 
-    #[tactic(auto, using(crate::proofs::Found::filtered_above))]
     fn raise_low(&mut self, low: Place) {
         keep_above(&mut self.entries, low);
         self.low = low;

@@ -113,8 +113,11 @@ fn take_step<B: VoteBook>(
             words[3].parse::<u8>()?,
         );
         let had = book.has(kind, place, voter);
+        let before = book.count();
         let answer = book.vote(kind, place, voter, &digest_of(words[4]))?;
         assert!(rt; answer_of(answer) == words[5], "{line}");
+        let after = before + usize::from(answer == Vote::Kept);
+        assert_eq!(rt; book.count(), after, "{line}");
         assert_eq!(rt;
             book.has(kind, place, voter),
             had || answer == Vote::Kept,
