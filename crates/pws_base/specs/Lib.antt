@@ -1,4 +1,5 @@
 pub mod Calls
+pub mod Counts
 pub mod Cursors
 pub mod Padded
 pub mod Shapes

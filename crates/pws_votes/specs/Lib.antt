@@ -1,0 +1,2 @@
+pub mod ListBooks
+pub mod Votes
