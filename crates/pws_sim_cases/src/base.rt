@@ -1,7 +1,5 @@
 //! The calls of `pws_base`, each once with ample memory.
 
-ghost use Rattle.std.specs.Prelude.{◌≡◌, IfOk};
-
 use pws_base::bytes::Bytes;
 use pws_base::cursors::{Cursor, Short};
 use pws_base::lists::{ExactCopy, Sequence};
@@ -114,34 +112,25 @@ struct Uneven {
     calls: u8,
 }
 
-impl Uneven {
-    fn answer(&mut self) -> io::Result<usize>
-        ensures { IfOk result (λ count. count ≡ 1) }
-    {
+impl Read for Uneven {
+    fn read(&mut self, buffer: &mut [u8]) -> io::Result<usize> {
         self.calls = self.calls.saturating_add(1);
         match self.calls {
             1 => Err(io::Error::from(ErrorKind::Interrupted)),
-            2 => Ok(1),
+            2 if !buffer.is_empty() => Ok(1),
             _ => Err(io::Error::from(ErrorKind::BrokenPipe)),
         }
     }
 }
 
-impl Read for Uneven {
-    fn read(&mut self, buffer: &mut [u8]) -> io::Result<usize> {
-        if buffer.is_empty() {
-            return Ok(0);
-        }
-        self.answer()
-    }
-}
-
 impl Write for Uneven {
     fn write(&mut self, piece: &[u8]) -> io::Result<usize> {
-        if piece.is_empty() {
-            return Ok(0);
+        self.calls = self.calls.saturating_add(1);
+        match self.calls {
+            1 => Err(io::Error::from(ErrorKind::Interrupted)),
+            2 if !piece.is_empty() => Ok(1),
+            _ => Err(io::Error::from(ErrorKind::BrokenPipe)),
         }
-        self.answer()
     }
 
     fn flush(&mut self) -> io::Result<()> {
