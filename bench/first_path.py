@@ -32,6 +32,11 @@ def main():
     program = sys.argv[1]
     before = None
     with tempfile.TemporaryDirectory() as folder:
+        empty = os.path.join(folder, "empty.pws")
+        with open(empty, "w") as out:
+            out.write(schedule(7))
+        base = max(run(program, empty)[1] for _ in range(RUNS))
+        print("an empty schedule: memory {:.1f} MiB, which is left out below".format(base / 2**20))
         for lines in (16000, 32000, 64000):
             path = os.path.join(folder, "{}.pws".format(lines))
             with open(path, "w") as out:
@@ -41,7 +46,7 @@ def main():
             spent = min(m[0] for m in measured)
             peak = max(m[1] for m in measured)
             ratio = "" if before is None else ", time {:.2f} of the one before".format(spent / before)
-            print("{} lines, {} bytes: {:.0f} ms{}, memory {:.1f} times the input".format(lines, size, spent * 1000, ratio, peak / size))
+            print("{} lines, {} bytes: {:.0f} ms{}, memory {:.1f} times the input".format(lines, size, spent * 1000, ratio, (peak - base) / size))
             before = spent
 
 
