@@ -31,9 +31,12 @@ report_on bytes = if nat_lt 67108864 (length bytes) then None else option_map (�
 abbrev pub usage : Outcome
 usage = record { status = Usage; text = codes "usage: pws-sim run, gen NUMBER COUNT or vectors\n" }
 
+abbrev pub unbuilt : Outcome
+unbuilt = record { status = Unbuilt; text = codes "not built\n" }
+
 -- the outcome of a run with this report, or with none
 abbrev pub outcome_of : Option (List ℕ) → Outcome
-outcome_of None = record { status = Unbuilt; text = codes "not built\n" }
+outcome_of None = unbuilt
 outcome_of (Some report) = record { status = Done; text = report }
 
 -- how a run with these words ends over a source of these bytes, where no fault comes and memory is found
@@ -51,6 +54,13 @@ Ends o held now status = (status ≡ o.status) × Grows held now o.text
 abbrev pub EndsOn : (List ℕ → Outcome) → Option (List ℕ) → Option (List ℕ) → Option (List ℕ) → Status → Type 0
 EndsOn ends None held now status = Unit {0}
 EndsOn ends (Some bytes) held now status = Ends (ends bytes) held now status
+
+-- what is written with a status, whatever the source tells; what is written with Done is told by OnceOn
+abbrev pub Writes : Option (List ℕ) → Option (List ℕ) → Status → Type 0
+Writes held now Usage = Grows held now usage.text
+Writes held now Unbuilt = Grows held now unbuilt.text
+Writes held now ReadFault = Grows held now []
+Writes held now status = Unit {0}
 
 -- Usage comes exactly where the words are no command, faults of the sink and want of memory aside
 abbrev pub UsageIff : Bool → Status → Type 0

@@ -3,7 +3,7 @@
 ghost use Rattle.std.specs.Prelude.{◌≡◌, map, IfOk};
 ghost use Rattle.pws_sim.specs.Replica.{places_after};
 ghost use Rattle.pws_sim.specs.Reports.{report_of};
-ghost use Rattle.pws_sim.specs.Outcomes.{outcome, is_run, EndsOn, UsageIff, UnbuiltOn, ReadCaused, WriteCaused, RunsOn, RunCaused, IsReport, Reports};
+ghost use Rattle.pws_sim.specs.Outcomes.{outcome, is_run, EndsOn, Writes, UsageIff, UnbuiltOn, ReadCaused, WriteCaused, RunsOn, RunCaused, IsReport, Reports};
 ghost use Rattle.pws_sim.specs.Once.{OnceOn};
 
 use crate::replica::Replica;
@@ -43,7 +43,8 @@ pub fn sim_main<S: Source, K: Sink>(
     // Over a source that tells its bytes, status and text are a function of words and bytes.
     ensures told { EndsOn (outcome (map (λ w. w.now) words.now)) (S.left source.old) (K.held sink.old) (K.held sink.new) result }
 
-    // When each refusal comes, whatever the source tells.
+    // What is written with each refusal, and when it comes, whatever the source tells.
+    ensures written { Writes (K.held sink.old) (K.held sink.new) result }
     ensures usage { UsageIff (is_run (map (λ w. w.now) words.now)) result }
     ensures unbuilt { UnbuiltOn (is_run (map (λ w. w.now) words.now)) (S.left source.old) result }
     ensures read_fault { ReadCaused result (S.faults source.old) (S.faults source.new) }
