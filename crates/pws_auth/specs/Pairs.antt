@@ -18,10 +18,11 @@ is_before a b = nat_lt a.group b.group || (a.group == b.group && nat_lt a.index 
 abbrev pub pair_of : ReplicaId → ReplicaId → Pair
 pair_of a b = if is_before b a then record { lesser = b; greater = a } else record { lesser = a; greater = b }
 
--- the order of pairs: by the lesser replica, then by the greater
+-- the order of replicas: by group, then by index
 abbrev pub replica_cmp : ReplicaId → ReplicaId → Ordering
 replica_cmp a b = ordering_then (nat_cmp a.group b.group) (nat_cmp a.index b.index)
 
+-- the order of pairs: by the lesser replica, then by the greater
 abbrev pub pair_cmp : Pair → Pair → Ordering
 pair_cmp p q = ordering_then (replica_cmp p.lesser q.lesser) (replica_cmp p.greater q.greater)
 

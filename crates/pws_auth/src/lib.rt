@@ -5,7 +5,7 @@
 //! - `tables` holds the keys, seals contents for a group and checks tags (`KeyTable`).
 //!
 //! The one contract that all above rely on: `KeyTable::check` is true exactly where the tag is `tag_of` under the
-//! key that the table has for sender and receiver.
+//! key that the table has for sender and receiver. No layer stands on it yet; the step of a replica will.
 #![tactic(auto)]
 
 pub mod codes;

@@ -5,7 +5,7 @@ ghost use Rattle.pws_auth.specs.Pairs.{pair_of};
 
 use pws_base::shapes::ReplicaId;
 
-/// Two replicas, the lesser by group and index first.
+/// Two replicas; `Pair::of` puts the lesser by group and index first.
 #[derive(Clone, Copy, Debug, PartialEq, Eq, PartialOrd, Ord)]
 pub struct Pair {
     pub lesser: ReplicaId,

@@ -7,7 +7,7 @@
 //!
 //! The one contract is that of `sim_main`: over a source that tells its bytes and a sink that tells what it holds,
 //! status and text are one function of the words and the bytes, `outcome`; and in the event list that it reports
-//! each caller's request takes effect at most once, at one place.
+//! each caller's request takes effect at most once, at one place. The program `pws_sim_program` stands on it.
 #![tactic(auto)]
 
 mod replica;

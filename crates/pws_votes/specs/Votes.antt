@@ -25,12 +25,13 @@ pub record Key : Type 0 where
 abbrev pub key : VoteKind → ℕ → ℕ → Key
 key kind place voter = record { kind = kind; place = place; voter = voter }
 
--- the order of keys: by kind, place and voter
+-- a kind's place in the order of kinds
 abbrev pub number_of : VoteKind → ℕ
 number_of Prepare = 0
 number_of Commit = 1
 number_of Checkpoint = 2
 
+-- the order of keys: by kind, place and voter
 abbrev pub key_cmp : Key → Key → Ordering
 key_cmp a b = ordering_then (nat_cmp (number_of a.kind) (number_of b.kind)) (ordering_then (nat_cmp a.place b.place) (nat_cmp a.voter b.voter))
 

@@ -10,7 +10,7 @@ use pws_base::memory::Memory;
 use pws_base::shapes::{Digest, GroupShape, Place};
 use std::alloc::Global;
 
-/// The votes of a group's replicas in one view.
+/// The votes of a group's replicas: those of one view, and those for checkpoints, which outlive views.
 ///
 /// Its meaning, `book`, is the group's shape, a low mark and a finite map from kind, place and voter to a digest. The
 /// window is the 32 places above the low mark.

@@ -11,7 +11,7 @@ pub enum VoteKind {
     Checkpoint,
 }
 
-/// What a book did with a vote.
+/// What was done with a vote, or with another statement of a replica.
 #[derive(Clone, Copy, Debug, PartialEq, Eq)]
 pub enum Vote {
     /// It is kept.

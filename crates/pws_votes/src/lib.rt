@@ -5,7 +5,7 @@
 //! - `list_book` is a book that is a plain list, which is searched.
 //!
 //! The one contract that all above rely on: each call of a `VoteBook` is one step of that finite map, whatever the
-//! book keeps inside.
+//! book keeps inside. No layer stands on it yet; the voter will, and will know the trait alone.
 #![tactic(auto)]
 
 pub mod books;
