@@ -1,0 +1,5 @@
+pub mod Numbers
+pub mod Operations
+pub mod Reading
+pub mod Spelling
+pub mod Texts
