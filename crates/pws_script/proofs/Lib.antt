@@ -1,3 +1,5 @@
+pub mod LineLemmas
 pub mod NumberLemmas
 pub mod Onto
 pub mod TextLemmas
+pub mod WordLemmas

@@ -3,8 +3,10 @@
 
 pub mod faults;
 pub mod instructions;
+mod lines;
 pub mod numbers;
 pub mod operands;
 pub mod operations;
+mod quotes;
 mod reading;
-pub mod texts;
+

@@ -2,12 +2,14 @@
 
 ghost use Rattle.std.specs.Prelude.{◌≡◌, ◌≤◌, map, length, All, true, Ok, IfOk};
 ghost use Rattle.pws_script.specs.Texts.{is_word};
-ghost use Rattle.pws_script.specs.Reading.{Gives, register_at, number_at, number_below_at, registers_at, one_at, two_at, three_at, set_at, jump_at, field_at, call_at, awaitany_at, none_at};
+ghost use Rattle.pws_script.specs.Reading.{Gives, register_at, number_at, number_below_at, registers_at, one_at, two_at, three_at, set_at, jump_at, field_at, call_at, awaitany_at, none_at, of_one, of_two, of_three, instruction_at};
+ghost use Rattle.pws_script.specs.declared.instructions.Instruction.TheVariants as instruction;
 
 use crate::faults::{LineError, ScriptFault};
 use crate::instructions::{Instruction, Literal};
 use crate::numbers::{read_below, read_number, read_register};
 use crate::operands::{Calls, Group, Name, Register};
+use crate::operations::Operation;
 use pws_base::bytes::Bytes;
 use std::alloc::Global;
 
@@ -181,4 +183,162 @@ fn read_name(alloc: Global, word: &str) -> Result<Name, LineError>
 {
     let bytes = word.as_bytes();
     Ok(Name::new(Bytes::from_slice(alloc, bytes)?))
+}
+
+#[tactic(auto, unfolding(crate::specs::Reading::three_at))]
+fn read_add(words: &[&str]) -> Result<Instruction, ScriptFault>
+    ensures { result ≡ of_three instruction.Add (map (λ w. w.now) words.now) }
+{
+    let (target, left, right) = read_three(words)?;
+    Ok(Instruction::Add {
+        target,
+        left,
+        right,
+    })
+}
+
+#[tactic(auto, unfolding(crate::specs::Reading::three_at))]
+fn read_sub(words: &[&str]) -> Result<Instruction, ScriptFault>
+    ensures { result ≡ of_three instruction.Sub (map (λ w. w.now) words.now) }
+{
+    let (target, left, right) = read_three(words)?;
+    Ok(Instruction::Sub {
+        target,
+        left,
+        right,
+    })
+}
+
+#[tactic(auto, unfolding(crate::specs::Reading::three_at))]
+fn read_less(words: &[&str]) -> Result<Instruction, ScriptFault>
+    ensures { result ≡ of_three instruction.Less (map (λ w. w.now) words.now) }
+{
+    let (target, left, right) = read_three(words)?;
+    Ok(Instruction::Less {
+        target,
+        left,
+        right,
+    })
+}
+
+#[tactic(auto, unfolding(crate::specs::Reading::three_at))]
+fn read_same(words: &[&str]) -> Result<Instruction, ScriptFault>
+    ensures { result ≡ of_three instruction.Same (map (λ w. w.now) words.now) }
+{
+    let (target, left, right) = read_three(words)?;
+    Ok(Instruction::Same {
+        target,
+        left,
+        right,
+    })
+}
+
+#[tactic(auto, unfolding(crate::specs::Reading::three_at))]
+fn read_join(words: &[&str]) -> Result<Instruction, ScriptFault>
+    ensures { result ≡ of_three instruction.Join (map (λ w. w.now) words.now) }
+{
+    let (target, left, right) = read_three(words)?;
+    Ok(Instruction::Join {
+        target,
+        left,
+        right,
+    })
+}
+
+#[tactic(auto, unfolding(crate::specs::Reading::two_at))]
+fn read_receive(words: &[&str]) -> Result<Instruction, ScriptFault>
+    ensures { result ≡ of_two instruction.Receive (map (λ w. w.now) words.now) }
+{
+    let (request, message) = read_two(words)?;
+    Ok(Instruction::Receive {
+        request,
+        message,
+    })
+}
+
+#[tactic(auto, unfolding(crate::specs::Reading::two_at))]
+fn read_await(words: &[&str]) -> Result<Instruction, ScriptFault>
+    ensures { result ≡ of_two instruction.Await (map (λ w. w.now) words.now) }
+{
+    let (message, call) = read_two(words)?;
+    Ok(Instruction::Await {
+        message,
+        call,
+    })
+}
+
+#[tactic(auto, unfolding(crate::specs::Reading::two_at))]
+fn read_next(words: &[&str]) -> Result<Instruction, ScriptFault>
+    ensures { result ≡ of_two instruction.Next (map (λ w. w.now) words.now) }
+{
+    let (source, message) = read_two(words)?;
+    Ok(Instruction::Next {
+        source,
+        message,
+    })
+}
+
+#[tactic(auto, unfolding(crate::specs::Reading::two_at))]
+fn read_reply(words: &[&str]) -> Result<Instruction, ScriptFault>
+    ensures { result ≡ of_two instruction.Reply (map (λ w. w.now) words.now) }
+{
+    let (request, text) = read_two(words)?;
+    Ok(Instruction::Reply {
+        request,
+        text,
+    })
+}
+
+#[tactic(auto, unfolding(crate::specs::Reading::two_at))]
+fn read_draw(words: &[&str]) -> Result<Instruction, ScriptFault>
+    ensures { result ≡ of_two instruction.Draw (map (λ w. w.now) words.now) }
+{
+    let (target, modulus) = read_two(words)?;
+    Ok(Instruction::Draw {
+        target,
+        modulus,
+    })
+}
+
+#[tactic(auto, unfolding(crate::specs::Reading::one_at))]
+fn read_clock(words: &[&str]) -> Result<Instruction, ScriptFault>
+    ensures { result ≡ of_one instruction.Clock (map (λ w. w.now) words.now) }
+{
+    let target = read_one(words)?;
+    Ok(Instruction::Clock {
+        target,
+    })
+}
+
+/// The instruction of an operation with these words after it, in a script of so many lines.
+#[tactic(auto, unfolding(crate::specs::Reading::instruction_at))]
+pub(crate) fn read_instruction(
+    alloc: Global,
+    lines: u32,
+    operation: Operation,
+    words: &[&str],
+) -> Result<Instruction, LineError>
+    requires { All (λ w. is_word w.now ≡ true) words.now }
+    ensures { Gives (λ i. i) result (instruction_at lines operation (map (λ w. w.now) words.now)) }
+{
+    match operation {
+        Operation::Set => Ok(read_set(words)?),
+        Operation::Add => Ok(read_add(words)?),
+        Operation::Sub => Ok(read_sub(words)?),
+        Operation::Less => Ok(read_less(words)?),
+        Operation::Same => Ok(read_same(words)?),
+        Operation::Jump => Ok(read_jump(words, lines)?),
+        Operation::Join => Ok(read_join(words)?),
+        Operation::Field => read_field(alloc, words),
+        Operation::Receive => Ok(read_receive(words)?),
+        Operation::Call => Ok(read_call(words)?),
+        Operation::Await => Ok(read_await(words)?),
+        Operation::AwaitAny => read_await_any(alloc, words),
+        Operation::Next => Ok(read_next(words)?),
+        Operation::Reply => Ok(read_reply(words)?),
+        Operation::Clock => Ok(read_clock(words)?),
+        Operation::Seed => Ok(read_none(words, Instruction::Seed)?),
+        Operation::Draw => Ok(read_draw(words)?),
+        Operation::Stop => Ok(read_none(words, Instruction::Stop)?),
+    }
 }
