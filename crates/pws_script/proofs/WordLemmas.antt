@@ -1,10 +1,13 @@
 -- The words of a line.
-use Rattle.std.proofs.Common.{◌≡◌, ℕ, zero, suc, ◌+◌, ◌-◌, ◌<◌, ◌≤◌, ◌==◌, ◌&&◌, Bool, true, false, cond, List, [], ◌∷◌, ◌++◌, length, map, take, drop, get_or, Option, Some, None, refl, sym, ◌∙◌, ap, arith, rules, codes, Bor, length-append, append_assoc, length-drop, All}
+use Rattle.std.proofs.Common.{◌≡◌, ℕ, zero, suc, ◌+◌, ◌-◌, ◌<◌, ◌≤◌, ◌==◌, ◌&&◌, Bool, true, false, cond, List, [], ◌∷◌, ◌++◌, length, map, take, drop, get_or, Option, Some, None, refl, sym, ◌∙◌, ap, arith, rules, codes, Bor, length-append, append_assoc, length-drop, All, Err}
 use Rattle.std.specs.List.{join_with_byte, slice_split}
-use Rattle.std.specs.Str.{bytes_eq}
+use Rattle.std.specs.Str.{bytes_eq, IsUtf8, is_utf8}
+use Rattle.std.proofs.lemmas.Str.{is_utf8-from_IsUtf8}
+use Rattle.pws_script.proofs.TextLemmas.{is_utf8_not}
+use Rattle.pws_script.specs.declared.faults.ScriptFault.TheVariants as fault
 use Rattle.std.proofs.lemmas.List.Splits.{join_with_byte-slice_split}
 use Rattle.std.proofs.Math.Seq.{drop-append-add}
-use Rattle.pws_script.specs.Reading.{words_of, text_set_in}
+use Rattle.pws_script.specs.Reading.{words_of, text_set_in, line_at, words_or_text_at}
 
 abbrev pub texts : List (Bor (List ℕ)) → List (List ℕ)
 texts words = map (λ w. w.now) words
@@ -52,3 +55,12 @@ text_set_found words line d quoted h e n q k =
     let t = three_up words line d h e in
     let cut : quoted ≡ t.rest = k ∙ (ap (drop (length (get_or words 0 d).now + length (get_or words 1 d).now + 2)) t.whole ∙ drop_two (get_or words 0 d).now (get_or words 1 d).now t.rest) in
     found_set (get_or words 0 d).now (get_or words 1 d).now (get_or words 2 d).now t.rest t.more quoted n q (cut ∙ t.value) ∙ ap text_set_in (sym t.parts)
+
+-- a line that is UTF-8 is read by its words
+pub line_at_utf8 : (lines : ℕ) (ended : Bool) (bytes : List ℕ) → IsUtf8 bytes → line_at lines ended bytes ≡ words_or_text_at lines ended (words_of bytes) (text_set_in (words_of bytes))
+unfolding line_at
+line_at_utf8 lines ended bytes u = rw (is_utf8-from_IsUtf8 bytes u) refl
+
+pub line_at_other : (lines : ℕ) (ended : Bool) (bytes : List ℕ) → ¬ (IsUtf8 bytes) → line_at lines ended bytes ≡ Err fault.Text
+unfolding line_at
+line_at_other lines ended bytes n = rw (is_utf8_not bytes (is_utf8 bytes) n refl) refl

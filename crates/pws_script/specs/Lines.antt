@@ -1,11 +1,15 @@
 -- The lines of a text, and the script that a text spells or the first line that isn't in the grammar; this
 -- project's own rules.
-use Rattle.std.specs.Prelude.{ℕ, ◌+◌, ◌==◌, Bool, true, false, nat_lt, if◌then◌else◌, List, [], ◌∷◌, length, Result, Ok, Err}
+use Rattle.std.specs.Prelude.{◌≡◌, ℕ, ◌+◌, ◌==◌, Bool, true, false, nat_lt, if◌then◌else◌, List, [], ◌∷◌, length, Result, Ok, Err}
 use Rattle.std.specs.List.{slice_split}
 use Rattle.pws_script.specs.Reading.{◌>>=◌, line_at}
 use Rattle.pws_script.specs.declared.faults.ScriptFault.{ScriptFault}
 use Rattle.pws_script.specs.declared.faults.ScriptFault.TheVariants as fault
 use Rattle.pws_script.specs.declared.faults.ScriptError.{ScriptError}
+use Rattle.pws_script.specs.declared.faults.ReadScriptError.{ReadScriptError}
+use Rattle.pws_script.specs.declared.faults.ReadScriptError.TheVariants as read_error
+use Rattle.pws_script.specs.declared.faults.LineError.{LineError}
+use Rattle.pws_script.specs.declared.faults.LineError.TheVariants as line_error
 use Rattle.pws_script.specs.declared.instructions.Instruction.{Instruction}
 
 -- a line without its line feed, and whether it has one
@@ -44,3 +48,13 @@ script_of_lines lines =
 
 abbrev pub script_of : List ℕ → Result (List Instruction) ScriptError
 script_of text = script_of_lines (lines_of text)
+
+-- what a function returned, seen by view, is what is wanted, unless memory ran out
+abbrev pub GivesLines : {A B : Type 0} → (A → B) → Result A ReadScriptError → Result B ScriptError → Type 0
+GivesLines view (Ok x) wanted = wanted ≡ Ok (view x)
+GivesLines view (Err (read_error.Script e)) wanted = wanted ≡ Err e
+GivesLines view (Err read_error.Memory) wanted = Unit {0}
+
+abbrev pub fault_at : ℕ → LineError → ReadScriptError
+fault_at number (line_error.Fault kind) = read_error.Script (record { line = number; kind = kind })
+fault_at number line_error.Memory = read_error.Memory

@@ -1,6 +1,6 @@
 -- The one text of an instruction and of a script, and which are lawful; this project's own rules.
 use Rattle.std.specs.Prelude.{◌≡◌, ℕ, ◌<◌, ◌≤◌, ◌^◌, ◌==◌, Bool, true, if◌then◌else◌, List, [], ◌∷◌, ◌++◌, length, map, All, codes, decimal}
-use Rattle.std.specs.List.{flat_map, join_with_byte}
+use Rattle.std.specs.List.{flat_map}
 use Rattle.pws_script.specs.Texts.{is_text, is_name}
 use Rattle.pws_script.specs.Operations.{name_of}
 use Rattle.pws_script.specs.declared.operations.Operation.{Operation}
@@ -77,9 +77,13 @@ operands_of line.Seed = []
 operands_of (line.Draw target modulus) = two target modulus
 operands_of line.Stop = []
 
--- the one text of an instruction: its words, separated by one space
+-- each operand after one space
+abbrev pub spaced : List (List ℕ) → List ℕ
+spaced operands = flat_map (λ operand. 32 ∷ operand) operands
+
+-- the one text of an instruction: its name and its operands
 unfoldable pub spelling : Instruction → List ℕ
-spelling i = join_with_byte 32 (name_of (operation_of i) ∷ operands_of i)
+spelling i = name_of (operation_of i) ++ spaced (operands_of i)
 
 abbrev pub IsRegister : ℕ → Type 0
 IsRegister index = index < 32

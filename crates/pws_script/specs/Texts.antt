@@ -12,6 +12,10 @@ is_character c =
 unfoldable pub is_text : List ℕ → Bool
 is_text bytes = is_utf8 bytes && list_all is_character (chars bytes) && nat_le (length bytes) 4096
 
+-- a line holds no line feed
+abbrev pub is_line : List ℕ → Bool
+is_line bytes = list_all (λ b. not (b == 10)) bytes
+
 -- a byte of a word: neither a space nor a line feed
 abbrev pub is_word_byte : ℕ → Bool
 is_word_byte b = not (b == 32) && not (b == 10)

@@ -1,5 +1,8 @@
 //! Why a text is no script.
 
+ghost use Rattle.std.specs.Prelude.{◌≡◌};
+ghost use Rattle.pws_script.specs.Lines.{fault_at};
+
 use pws_base::memory::Memory;
 use std::alloc::{AllocError, AllocFailed};
 use thiserror::Error;
@@ -45,6 +48,29 @@ pub enum ReadScriptError {
 pub(crate) enum LineError {
     Fault(ScriptFault),
     Memory,
+}
+
+impl LineError {
+    /// The same of the line of this number.
+    pub fn at(self, number: u32) -> ReadScriptError
+        ensures { result ≡ fault_at number self }
+    {
+        match self {
+            LineError::Fault(kind) => ReadScriptError::Script(ScriptError { line: number, kind }),
+            LineError::Memory => ReadScriptError::Memory,
+        }
+    }
+}
+
+impl<T: Drop> From<AllocFailed<T>> for ReadScriptError {
+    ghost use Rattle.std.specs.Prelude.{◌≡◌};
+    ghost use Rattle.pws_script.specs.declared.faults.ReadScriptError.TheVariants as read_error;
+
+    ghost from_gives = { λ _ e. e ≡ read_error.Memory };
+
+    fn from(_error: AllocFailed<T>) -> ReadScriptError {
+        ReadScriptError::Memory
+    }
 }
 
 impl From<ScriptFault> for LineError {

@@ -7,6 +7,8 @@ mod lines;
 pub mod numbers;
 pub mod operands;
 pub mod operations;
+mod printing;
 mod quotes;
 mod reading;
+pub mod scripts;
 

@@ -1,11 +1,11 @@
 //! The lines of a text, and the instruction of a line.
 
-ghost use Rattle.std.specs.Prelude.{◌≡◌, ◌==◌, ◌∷◌, [], ◌≤◌, length, map, MatchOption, IfOk, SomeIff, All, true, codes, slice_index};
+ghost use Rattle.std.specs.Prelude.{◌≡◌, ◌==◌, ◌∷◌, [], ◌≤◌, length, map, MatchOption, IfOk, IfSome, SomeIff, All, true, codes, slice_index};
 ghost use Rattle.std.specs.Str.{bytes_eq};
-ghost use Rattle.pws_script.specs.Texts.{is_word};
+ghost use Rattle.pws_script.specs.Texts.{is_word, is_line};
 ghost use Rattle.std.specs.Option.{option_map};
 ghost use Rattle.std.specs.List.{join_with_byte, position};
-ghost use Rattle.pws_script.specs.Reading.{Gives, words_of, text_set_in, text_set_at, words_at, line_at};
+ghost use Rattle.pws_script.specs.Reading.{Gives, words_of, text_set_in, text_set_at, words_at, words_or_text_at, line_at};
 ghost use Rattle.pws_script.specs.Lines.{lines_of};
 
 use crate::faults::{LineError, ScriptFault};
@@ -58,7 +58,8 @@ impl<'a> Lines<'a> {
 
     /// The next line.
     pub fn next(&mut self) -> Option<TextLine<'a>>
-        ensures { MatchOption result (self.old ≡ []) (λ l. self.old ≡ record { bytes = l.bytes.now; ended = l.ended } ∷ self.new) }
+        ensures next { MatchOption result (self.old ≡ []) (λ l. self.old ≡ record { bytes = l.bytes.now; ended = l.ended } ∷ self.new) }
+        ensures line { IfSome result (λ l. is_line l.bytes.now ≡ true) }
     {
         if self.rest.is_empty() {
             return None;
@@ -156,4 +157,26 @@ fn read_words(alloc: Global, lines: u32, ended: bool, words: &[&str]) -> Result<
     }
     let operation = Operation::named(name.as_bytes()).ok_or(ScriptFault::Word)?;
     read_instruction(alloc, lines, operation, operands)
+}
+
+fn read_utf8(alloc: Global, lines: u32, ended: bool, line: &str) -> Result<Instruction, LineError>
+    requires { is_line line.now ≡ true }
+    ensures { Gives (λ i. i) result (words_or_text_at lines ended (words_of line.now) (text_set_in (words_of line.now))) }
+{
+    let words = split_words(alloc, line)?;
+    match text_set(line.as_bytes(), &words) {
+        Some((word, quoted)) => read_text_set(alloc, ended, word, quoted),
+        None => read_words(alloc, lines, ended, &words),
+    }
+}
+
+/// The instruction of a line, which ends by a line feed or not, in a script of so many lines.
+pub(crate) fn read_line(alloc: Global, lines: u32, ended: bool, bytes: &[u8]) -> Result<Instruction, LineError>
+    requires { is_line bytes.now ≡ true }
+    ensures { Gives (λ i. i) result (line_at lines ended bytes.now) }
+{
+    match str::from_utf8(bytes) {
+        Ok(line) => read_utf8(alloc, lines, ended, line),
+        Err(_) => Err(LineError::Fault(ScriptFault::Text)),
+    }
 }
