@@ -1,6 +1,10 @@
 pub mod LineLemmas
+pub mod LineRead
 pub mod NumberLemmas
 pub mod Onto
+pub mod OperandsRead
 pub mod PieceLemmas
+pub mod TextRead
+pub mod ScriptRead
 pub mod TextLemmas
 pub mod WordLemmas

@@ -36,7 +36,7 @@ pieces_pass p q r k (x ∷ xs) h =
 not_false : (b c : Bool) → b ≡ false → c ≡ true → not b ≡ true
 not_false b c e f = rw e refl
 
-pieces_lack : (text : List ℕ) → list_all is_line (slice_split (λ b. b == 10) text) ≡ true
+pub pieces_lack : (text : List ℕ) → list_all is_line (slice_split (λ b. b == 10) text) ≡ true
 pieces_lack text = pieces_pass (λ b. b == 10) (λ b. true) (λ b. not (b == 10)) (λ x. not_false (x == 10) true) text (all_true text)
 
 -- no line feed stands before the first

@@ -2,5 +2,6 @@ pub mod Lines
 pub mod Numbers
 pub mod Operations
 pub mod Reading
+pub mod Scripts
 pub mod Spelling
 pub mod Texts

@@ -1,11 +1,11 @@
 //! Printing instructions.
 
-ghost use Rattle.std.specs.Prelude.{◌≡◌, ◌∷◌, ◌++◌, map, OnOk, codes, decimal};
+ghost use Rattle.std.specs.Prelude.{◌≡◌, ◌∷◌, ◌++◌, [], map, OnOk, codes, decimal};
 ghost use Rattle.std.specs.List.{flat_map};
-ghost use Rattle.pws_script.specs.Spelling.{register_text, escape, quoted, literal_text, operation_of, operands_of, spelling, spaced};
+ghost use Rattle.pws_script.specs.Spelling.{register_text, escape, quoted, literal_text, operation_of, operands_of, spelling, spaced, two, three};
 
 use crate::instructions::{Instruction, Literal};
-use crate::operands::{Calls, Register};
+use crate::operands::{Calls, Group, Name, Register};
 use crate::operations::Operation;
 use itoa::Buffer;
 use pws_base::memory::Memory;
@@ -83,4 +83,113 @@ fn put_literal(text: &mut Writer, literal: &Literal) -> Result<(), Memory>
         Literal::Number(number) => put_number(text, *number),
         Literal::Text(bytes) => put_quoted(text, bytes.as_slice()),
     }
+}
+
+fn put_operand_register(text: &mut Writer, register: Register) -> Result<(), Memory>
+    ensures { OnOk result (text.new ≡ text.old ++ (32 ∷ register_text register)) }
+{
+    text.put_u8(b' ')?;
+    put_register(text, register)
+}
+
+fn put_operand_number(text: &mut Writer, number: u64) -> Result<(), Memory>
+    ensures { OnOk result (text.new ≡ text.old ++ (32 ∷ decimal number)) }
+{
+    text.put_u8(b' ')?;
+    put_number(text, number)
+}
+
+fn put_two(text: &mut Writer, a: Register, b: Register) -> Result<(), Memory>
+    ensures { OnOk result (text.new ≡ text.old ++ spaced (two a b)) }
+{
+    put_operand_register(text, a)?;
+    put_operand_register(text, b)
+}
+
+fn put_three(text: &mut Writer, a: Register, b: Register, c: Register) -> Result<(), Memory>
+    ensures { OnOk result (text.new ≡ text.old ++ spaced (three a b c)) }
+{
+    put_operand_register(text, a)?;
+    put_two(text, b, c)
+}
+
+fn put_set(text: &mut Writer, target: Register, literal: &Literal) -> Result<(), Memory>
+    ensures { OnOk result (text.new ≡ text.old ++ spaced (register_text target ∷ literal_text literal.now ∷ [])) }
+{
+    put_operand_register(text, target)?;
+    text.put_u8(b' ')?;
+    put_literal(text, literal)
+}
+
+fn put_field(text: &mut Writer, target: Register, message: Register, name: &Name) -> Result<(), Memory>
+    ensures { OnOk result (text.new ≡ text.old ++ spaced (register_text target ∷ register_text message ∷ name.now ∷ [])) }
+{
+    put_two(text, target, message)?;
+    text.put_u8(b' ')?;
+    text.put_bytes(name.as_slice())
+}
+
+fn put_jump(text: &mut Writer, line: u32, test: Register) -> Result<(), Memory>
+    ensures { OnOk result (text.new ≡ text.old ++ spaced (decimal line ∷ register_text test ∷ [])) }
+{
+    put_operand_number(text, u64::from(line))?;
+    put_operand_register(text, test)
+}
+
+fn put_call(text: &mut Writer, target: Register, group: Group, request: Register, timeout: u32) -> Result<(), Memory>
+    ensures { OnOk result (text.new ≡ text.old ++ spaced (register_text target ∷ decimal group ∷ register_text request ∷ decimal timeout ∷ [])) }
+{
+    put_operand_register(text, target)?;
+    put_operand_number(text, u64::from(group.number()))?;
+    put_operand_register(text, request)?;
+    put_operand_number(text, u64::from(timeout))
+}
+
+fn put_calls(text: &mut Writer, registers: &[Register]) -> Result<(), Memory>
+    ensures { OnOk result (text.new ≡ text.old ++ spaced (map register_text registers.now)) }
+{
+    for register in registers {
+        put_operand_register(text, *register)?;
+    }
+    Ok(())
+}
+
+fn put_await_any(text: &mut Writer, call: Register, message: Register, calls: &Calls) -> Result<(), Memory>
+    ensures { OnOk result (text.new ≡ text.old ++ spaced (register_text call ∷ register_text message ∷ map register_text calls.now)) }
+{
+    put_two(text, call, message)?;
+    put_calls(text, calls.as_slice())
+}
+
+fn put_operands(text: &mut Writer, instruction: &Instruction) -> Result<(), Memory>
+    ensures { OnOk result (text.new ≡ text.old ++ spaced (operands_of instruction.now)) }
+{
+    match instruction {
+        Instruction::Set { target, literal } => put_set(text, *target, literal),
+        Instruction::Add { target, left, right }
+        | Instruction::Sub { target, left, right }
+        | Instruction::Less { target, left, right }
+        | Instruction::Same { target, left, right }
+        | Instruction::Join { target, left, right } => put_three(text, *target, *left, *right),
+        Instruction::Jump { line, test } => put_jump(text, *line, *test),
+        Instruction::Field { target, message, name } => put_field(text, *target, *message, name),
+        Instruction::Receive { request, message } => put_two(text, *request, *message),
+        Instruction::Call { target, group, text: request, timeout } => put_call(text, *target, *group, *request, *timeout),
+        Instruction::Await { message, call } => put_two(text, *message, *call),
+        Instruction::AwaitAny { call, message, calls } => put_await_any(text, *call, *message, calls),
+        Instruction::Next { source, message } => put_two(text, *source, *message),
+        Instruction::Reply { request, text: reply } => put_two(text, *request, *reply),
+        Instruction::Clock { target } => put_operand_register(text, *target),
+        Instruction::Draw { target, modulus } => put_two(text, *target, *modulus),
+        Instruction::Seed | Instruction::Stop => Ok(()),
+    }
+}
+
+/// Writes the text of an instruction.
+#[tactic(auto, unfolding(crate::specs::Spelling::spelling))]
+pub(crate) fn put_instruction(text: &mut Writer, instruction: &Instruction) -> Result<(), Memory>
+    ensures { OnOk result (text.new ≡ text.old ++ spelling instruction.now) }
+{
+    text.put_bytes(instruction.operation().name())?;
+    put_operands(text, instruction)
 }
