@@ -1,11 +1,11 @@
 -- The lines of a text, one after the other.
-use Rattle.std.proofs.Common.{◌≡◌, ℕ, zero, suc, ◌+◌, ◌-◌, ◌<◌, ◌==◌, Bool, true, false, cond, nat_lt, List, [], ◌∷◌, length, take, drop, Option, Some, None, refl, sym, ◌∙◌, ap, arith, rules, length-drop}
+use Rattle.std.proofs.Common.{◌≡◌, ℕ, ◌+◌, ◌-◌, ◌<◌, ◌==◌, Bool, true, false, cond, nat_lt, List, [], ◌∷◌, length, take, drop, Some, None, refl, sym, ◌∙◌, ap, arith, length-drop}
 use Rattle.std.proofs.Math.Seq.{take-length}
-use Rattle.std.specs.List.{slice_split, onto_first, position, position_from, position_or_len, before_first, after_first}
+use Rattle.std.specs.List.{slice_split, position, position_from, position_or_len}
 use Rattle.std.proofs.lemmas.List.Splits.{slice_split_first, length-slice_split}
 use Rattle.std.proofs.lemmas.Iterator.Adapters.{position_from-zero}
 use Rattle.std.proofs.lemmas.Bool.Decides.{nat_tests}
-use Rattle.pws_script.specs.Lines.{TextLine, lines_from, lines_of}
+use Rattle.pws_script.specs.Lines.{lines_from, lines_of}
 
 none_from : (text : List ℕ) → length text ≡ 0 → lines_of text ≡ []
 unfolding lines_of
@@ -46,7 +46,7 @@ whole_from p i (x ∷ xs) e = at_first p i x xs (p x) refl e (whole_from p (i + 
 pub split_whole : (p : ℕ → Bool) (xs : List ℕ) → position p xs ≡ None → slice_split p xs ≡ xs ∷ []
 split_whole p xs e = whole_from p 0 xs (sym (position_from-zero p xs) ∙ e)
 
-lines_more : (bytes : List ℕ) (pieces : List (List ℕ)) → 0 < length pieces → lines_from (bytes ∷ pieces) ≡ record { bytes = bytes; ended = true } ∷ lines_from pieces
+pub lines_more : (bytes : List ℕ) (pieces : List (List ℕ)) → 0 < length pieces → lines_from (bytes ∷ pieces) ≡ record { bytes = bytes; ended = true } ∷ lines_from pieces
 lines_more bytes [] h = absurd (omega (arith, h))
 lines_more bytes (piece ∷ pieces) h = refl
 

@@ -1,26 +1,23 @@
 -- A line that is read is the text of its instruction.
-use Rattle.std.proofs.Common.{◌≡◌, ℕ, zero, suc, ◌+◌, ◌<◌, ◌≤◌, ◌==◌, ◌&&◌, Bool, true, false, if◌then◌else◌, List, [], ◌∷◌, ◌++◌, length, get_or, take, drop, Option, Some, None, Result, Ok, Err, refl, sym, ◌∙◌, ap, subst, arith, append_assoc, append-nil, codes, length-append, lit<, cond, not}
-use Rattle.std.specs.List.{join_with_byte, slice_split, flat_map, list_all, find}
+use Rattle.std.proofs.Common.{◌≡◌, ℕ, ◌+◌, ◌<◌, ◌==◌, ◌&&◌, Bool, true, false, if◌then◌else◌, List, [], ◌∷◌, ◌++◌, length, get_or, take, Option, Some, None, Result, Ok, Err, refl, sym, ◌∙◌, ap, subst, arith, append-nil, codes, length-append, lit<, cond, not}
+use Rattle.std.specs.List.{join_with_byte, list_all, find}
 use Rattle.std.specs.Str.{bytes_eq, IsUtf8, is_utf8}
-use Rattle.std.proofs.lemmas.Bool.Decides.{nat_tests}
 use Rattle.std.proofs.lemmas.Slice.Eq.{bytes_eq-Decides}
 use Rattle.std.proofs.lemmas.List.Splits.{join_with_byte-slice_split}
 use Rattle.std.proofs.lemmas.List.Folds.{list_all-append}
 use Rattle.std.proofs.lemmas.Str.{IsUtf8-take, IsUtf8-drop, IsCharBoundary-before_ascii, IsCharBoundary-after_ascii, IsUtf8-from_is_utf8, is_utf8-from_IsUtf8}
-use Rattle.std.proofs.Math.Seq.{drop-append-add, drop-append_seam}
-use Rattle.pws_script.specs.Texts.{is_line, is_word, is_text}
+use Rattle.std.proofs.Math.Seq.{drop-append-add}
+use Rattle.pws_script.specs.Texts.{is_line, is_word}
 use Rattle.pws_script.specs.Operations.{name_of, operations, operation_named}
-use Rattle.pws_script.specs.Spelling.{register_text, quoted, spaced, operation_of, operands_of, spelling, IsLawful}
+use Rattle.pws_script.specs.Spelling.{quoted, spaced, operation_of, spelling, IsLawful}
 use Rattle.pws_script.specs.Reading.{◌>>=◌, or_fault, register_at, text_at, instruction_at, text_set_in, text_set_at, words_at, words_or_text_at, words_of, line_at}
-use Rattle.pws_script.specs.declared.faults.ScriptFault.{ScriptFault}
 use Rattle.pws_script.specs.declared.faults.ScriptFault.TheVariants as fault
 use Rattle.pws_script.specs.declared.operations.Operation.{Operation}
-use Rattle.pws_script.specs.declared.operations.Operation.TheVariants as operation
 use Rattle.pws_script.specs.declared.instructions.Literal.TheVariants as literal
 use Rattle.pws_script.specs.declared.instructions.Instruction.{Instruction}
 use Rattle.pws_script.specs.declared.instructions.Instruction.TheVariants as line
 use Rattle.pws_script.proofs.PieceLemmas.{both, words_plain}
-use Rattle.pws_script.proofs.OperandsRead.{Chained, chained, given, tested, register_is, is_plain, IsRead, instruction_is}
+use Rattle.pws_script.proofs.OperandsRead.{chained, given, register_is, is_plain, instruction_is}
 use Rattle.pws_script.proofs.TextRead.{text_is}
 
 -- what is known of a line that is read
@@ -43,9 +40,10 @@ utf8_cut : (xs ys : List ℕ) → IsUtf8 (xs ++ 32 ∷ ys) → IsUtf8 xs × IsUt
 utf8_cut xs ys u =
     let bytes = xs ++ 32 ∷ ys in
     let inside : length xs < length (xs ++ 32 ∷ ys) = omega (arith, length-append xs (32 ∷ ys)) in
-    let ascii : get_or (xs ++ 32 ∷ ys) (length xs) 0 < 128 = rw (get_seam xs ys 32) (lit< tt) in
-    (subst IsUtf8 (take_seam xs (32 ∷ ys)) (IsUtf8-take bytes (length xs) u (IsCharBoundary-before_ascii bytes (length xs) inside ascii)),
-      subst IsUtf8 (drop-append-add xs (32 ∷ ys) 1) (IsUtf8-drop bytes (length xs + 1) u (IsCharBoundary-after_ascii bytes (length xs) u inside ascii)))
+    let ascii : get_or (xs ++ 32 ∷ ys) (length xs) 0 < 128 = rw (get_seam xs ys 32) (lit< tt) in (
+      subst IsUtf8 (take_seam xs (32 ∷ ys)) (IsUtf8-take bytes (length xs) u (IsCharBoundary-before_ascii bytes (length xs) inside ascii)),
+      subst IsUtf8 (drop-append-add xs (32 ∷ ys) 1) (IsUtf8-drop bytes (length xs + 1) u (IsCharBoundary-after_ascii bytes (length xs) u inside ascii)),
+    )
 
 words_utf8 : (words : List (List ℕ)) → IsUtf8 (join_with_byte 32 words) → list_all is_utf8 words ≡ true
 words_utf8 [] u = refl
@@ -63,7 +61,7 @@ both_all p q (w ∷ words) h k =
 
 -- ---- a line by its words
 
-join_spaced : (word : List ℕ) (words : List (List ℕ)) → join_with_byte 32 (word ∷ words) ≡ word ++ spaced words
+pub join_spaced : (word : List ℕ) (words : List (List ℕ)) → join_with_byte 32 (word ∷ words) ≡ word ++ spaced words
 join_spaced word [] = sym (append-nil word)
 join_spaced word (next ∷ words) = ap (λ xs. word ++ (32 ∷ xs)) (join_spaced next words)
 

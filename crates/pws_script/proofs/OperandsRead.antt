@@ -1,12 +1,12 @@
 -- Operands that are read are spelled so, and lawful.
-use Rattle.std.proofs.Common.{◌≡◌, ℕ, zero, suc, ◌+◌, ◌<◌, ◌≤◌, ◌^◌, ◌==◌, ◌&&◌, Bool, true, false, nat_lt, nat_le, if◌then◌else◌, List, [], ◌∷◌, ◌++◌, length, map, Option, Some, None, Result, Ok, Err, refl, sym, ◌∙◌, ap, subst, arith, rules, decimal, All}
+use Rattle.std.proofs.Common.{◌≡◌, ℕ, suc, ◌<◌, ◌≤◌, ◌^◌, ◌==◌, ◌&&◌, Bool, true, false, nat_lt, nat_le, if◌then◌else◌, List, [], ◌∷◌, length, map, Option, Some, None, Result, Ok, Err, refl, ◌∙◌, ap, subst, arith, decimal, All}
 use Rattle.std.specs.List.{list_all}
 use Rattle.std.specs.Str.{is_utf8}
 use Rattle.std.proofs.lemmas.Bool.Decides.{nat_tests}
 use Rattle.std.proofs.lemmas.List.Elements.{All-cons, All-nil}
 use Rattle.pws_script.specs.Numbers.{number_of, below, register_of}
 use Rattle.pws_script.specs.Texts.{is_word, is_name}
-use Rattle.pws_script.specs.Spelling.{register_text, literal_text, operation_of, operands_of, two, three, IsRegister, AreTwo, AreThree, IsLawful}
+use Rattle.pws_script.specs.Spelling.{register_text, operation_of, operands_of, two, three, IsRegister, AreTwo, AreThree, IsLawful}
 use Rattle.pws_script.specs.Reading.{◌>>=◌, or_fault, register_at, number_at, number_below_at, registers_at, one_at, two_at, three_at, set_at, jump_at, field_at, call_at, awaitany_at, none_at, of_one, of_two, of_three, instruction_at}
 use Rattle.pws_script.specs.declared.faults.ScriptFault.{ScriptFault}
 use Rattle.pws_script.specs.declared.faults.ScriptFault.TheVariants as fault
@@ -16,7 +16,7 @@ use Rattle.pws_script.specs.declared.instructions.Literal.TheVariants as literal
 use Rattle.pws_script.specs.declared.instructions.Instruction.{Instruction}
 use Rattle.pws_script.specs.declared.instructions.Instruction.TheVariants as line
 use Rattle.pws_script.proofs.NumberLemmas.{decimal-number_of}
-use Rattle.pws_script.proofs.PieceLemmas.{both, both_from}
+use Rattle.pws_script.proofs.PieceLemmas.{both}
 
 -- the steps of a chain that gives a value
 pub record Chained {A B E : Type 0} (r : Result A E) (f : A → Result B E) (y : B) : Type 0 where

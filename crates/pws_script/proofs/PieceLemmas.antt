@@ -1,5 +1,5 @@
 -- What is known of the pieces between separators.
-use Rattle.std.proofs.Common.{◌≡◌, ℕ, ◌<◌, ◌==◌, ◌&&◌, not, Bool, true, false, cond, List, [], ◌∷◌, length, map, take, drop, ◌+◌, Option, Some, None, refl, sym, ◌∙◌, ap, Bor, All}
+use Rattle.std.proofs.Common.{◌≡◌, ℕ, ◌==◌, ◌&&◌, not, Bool, true, false, cond, List, [], ◌∷◌, map, take, drop, ◌+◌, Some, None, refl, sym, ◌∙◌, ap, Bor, All}
 use Rattle.std.specs.List.{list_all, slice_split, onto_first, position}
 use Rattle.std.proofs.lemmas.List.Sums.{AllPass-from_list_all}
 use Rattle.std.proofs.lemmas.List.Folds.{list_all-map}

@@ -1,11 +1,11 @@
 -- A script that is read is spelled by its text.
-use Rattle.std.proofs.Common.{◌≡◌, ℕ, zero, suc, ◌+◌, ◌<◌, ◌≤◌, ◌==◌, ◌&&◌, Bool, true, false, nat_lt, if◌then◌else◌, List, [], ◌∷◌, ◌++◌, length, Result, Ok, Err, refl, sym, ◌∙◌, ap, subst, arith, append_assoc, All}
+use Rattle.std.proofs.Common.{◌≡◌, ℕ, suc, ◌+◌, ◌≤◌, ◌==◌, Bool, true, false, nat_lt, if◌then◌else◌, List, [], ◌∷◌, ◌++◌, length, Result, Ok, Err, refl, sym, ◌∙◌, ap, subst, arith, append_assoc, All}
 use Rattle.std.specs.List.{join_with_byte, slice_split, flat_map, list_all}
 use Rattle.std.proofs.lemmas.Bool.Decides.{nat_tests}
 use Rattle.std.proofs.lemmas.List.Elements.{All-cons, All-nil}
 use Rattle.std.proofs.lemmas.List.Splits.{join_with_byte-slice_split}
 use Rattle.pws_script.specs.Texts.{is_line}
-use Rattle.pws_script.specs.Spelling.{spelling, IsLawful, IsScript, script_text}
+use Rattle.pws_script.specs.Spelling.{IsLawful, IsScript, script_text}
 use Rattle.pws_script.specs.Reading.{◌>>=◌, line_at}
 use Rattle.pws_script.specs.Lines.{TextLine, lines_from, lines_of, at_line, each_line, script_of_lines, script_of}
 use Rattle.pws_script.specs.declared.faults.ScriptFault.{ScriptFault}
@@ -13,8 +13,8 @@ use Rattle.pws_script.specs.declared.faults.ScriptFault.TheVariants as fault
 use Rattle.pws_script.specs.declared.faults.ScriptError.{ScriptError}
 use Rattle.pws_script.specs.declared.instructions.Instruction.{Instruction}
 use Rattle.pws_script.proofs.PieceLemmas.{both, pieces_lack}
-use Rattle.pws_script.proofs.OperandsRead.{Chained, chained}
-use Rattle.pws_script.proofs.LineRead.{IsLineRead, line_is}
+use Rattle.pws_script.proofs.OperandsRead.{chained}
+use Rattle.pws_script.proofs.LineRead.{line_is}
 use Rattle.pws_script.proofs.TextRead.{empty_is}
 
 -- each line and a line feed

@@ -1,14 +1,13 @@
 -- A text in double quotes that is read is quoted so.
-use Rattle.std.proofs.Common.{◌≡◌, ℕ, ◌==◌, ◌&&◌, not, Bool, true, false, if◌then◌else◌, List, [], ◌∷◌, ◌++◌, length, get_or, drop, Option, Some, None, Result, Ok, Err, refl, sym, ◌∙◌, ap, subst, arith, append_assoc}
+use Rattle.std.proofs.Common.{◌≡◌, ℕ, ◌==◌, not, Bool, true, false, if◌then◌else◌, List, [], ◌∷◌, ◌++◌, length, get_or, Ok, Err, refl, sym, ◌∙◌, ap, subst, arith, append_assoc}
 use Rattle.std.specs.List.{flat_map}
 use Rattle.std.proofs.lemmas.Bool.Decides.{nat_tests}
 use Rattle.pws_script.specs.Texts.{is_text, is_line}
 use Rattle.pws_script.specs.Spelling.{escape, quoted}
 use Rattle.pws_script.specs.Reading.{◌>>=◌, unescaped, bytes_after, text_at}
-use Rattle.pws_script.specs.declared.faults.ScriptFault.{ScriptFault}
 use Rattle.pws_script.specs.declared.faults.ScriptFault.TheVariants as fault
 use Rattle.pws_script.proofs.PieceLemmas.{both}
-use Rattle.pws_script.proofs.OperandsRead.{Chained, chained, tested}
+use Rattle.pws_script.proofs.OperandsRead.{chained, tested}
 
 -- the three escapes
 escape_is : (c b : ℕ) (q s n : Bool) → (c == 34) ≡ q → (c == 92) ≡ s → (c == 110) ≡ n → (if q then Ok 34 else if s then Ok 92 else if n then Ok 10 else Err fault.Text) ≡ Ok b → escape b ≡ 92 ∷ c ∷ []
@@ -30,7 +29,7 @@ escape_is c b false false false e f g h = absurd (cc)
 escape_other : (c : ℕ) → (c == 34) ≡ false → (c == 92) ≡ false → (c == 10) ≡ false → escape c ≡ c ∷ []
 escape_other c q s n = rw (q, s, n) refl
 
-not_true : (b : Bool) → not b ≡ true → b ≡ false
+pub not_true : (b : Bool) → not b ≡ true → b ≡ false
 not_true true h = absurd (cc)
 not_true false h = refl
 

@@ -1,5 +1,5 @@
 -- The instruction that a line spells, or what is wrong with the line: the kinds of faults in their order.
-use Rattle.std.specs.Prelude.{◌≡◌, ℕ, ◌^◌, ◌==◌, ◌&&◌, ◌||◌, not, Bool, true, false, nat_lt, nat_le, if◌then◌else◌, List, [], ◌∷◌, length, drop, slice_index, codes, Option, Some, None, Result, Ok, Err}
+use Rattle.std.specs.Prelude.{◌≡◌, ℕ, ◌^◌, ◌==◌, ◌&&◌, Bool, true, false, nat_lt, nat_le, if◌then◌else◌, List, [], ◌∷◌, length, drop, slice_index, codes, Option, Some, None, Result, Ok, Err}
 use Rattle.std.specs.List.{join_with_byte, slice_split}
 use Rattle.std.specs.Str.{bytes_eq, is_utf8}
 use Rattle.pws_script.specs.Texts.{is_text}
@@ -11,7 +11,6 @@ use Rattle.pws_script.specs.declared.faults.LineError.{LineError}
 use Rattle.pws_script.specs.declared.faults.LineError.TheVariants as line_error
 use Rattle.pws_script.specs.declared.operations.Operation.{Operation}
 use Rattle.pws_script.specs.declared.operations.Operation.TheVariants as operation
-use Rattle.pws_script.specs.declared.instructions.Literal.{Literal}
 use Rattle.pws_script.specs.declared.instructions.Literal.TheVariants as literal
 use Rattle.pws_script.specs.declared.instructions.Instruction.{Instruction}
 use Rattle.pws_script.specs.declared.instructions.Instruction.TheVariants as line

@@ -1,5 +1,5 @@
 -- The one text of an instruction and of a script, and which are lawful; this project's own rules.
-use Rattle.std.specs.Prelude.{◌≡◌, ℕ, ◌<◌, ◌≤◌, ◌^◌, ◌==◌, Bool, true, if◌then◌else◌, List, [], ◌∷◌, ◌++◌, length, map, All, codes, decimal}
+use Rattle.std.specs.Prelude.{◌≡◌, ℕ, ◌<◌, ◌≤◌, ◌^◌, ◌==◌, true, if◌then◌else◌, List, [], ◌∷◌, ◌++◌, length, map, All, codes, decimal}
 use Rattle.std.specs.List.{flat_map}
 use Rattle.pws_script.specs.Texts.{is_text, is_name}
 use Rattle.pws_script.specs.Operations.{name_of}

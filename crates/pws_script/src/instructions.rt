@@ -23,7 +23,10 @@ impl ExactCopy for Literal {
 #[derive(Clone, Debug, Drop, PartialEq, Eq)]
 pub enum Instruction {
     /// `set rD VALUE` puts the literal.
-    Set { target: Register, literal: Literal },
+    Set {
+        target: Register,
+        literal: Literal,
+    },
     /// `add rD rA rB` adds numbers.
     Add {
         target: Register,
@@ -49,7 +52,10 @@ pub enum Instruction {
         right: Register,
     },
     /// `jump L rA` goes to a line if the number isn't 0.
-    Jump { line: u32, test: Register },
+    Jump {
+        line: u32,
+        test: Register,
+    },
     /// `join rD rA rB` joins texts.
     Join {
         target: Register,
@@ -75,7 +81,10 @@ pub enum Instruction {
         timeout: u32,
     },
     /// `await rD rC` takes the answer of a call.
-    Await { message: Register, call: Register },
+    Await {
+        message: Register,
+        call: Register,
+    },
     /// `awaitany rD rM rA ...` takes the first answer of several calls.
     AwaitAny {
         call: Register,
@@ -83,11 +92,19 @@ pub enum Instruction {
         calls: Calls,
     },
     /// `next rD rM` takes the first untaken request or answer.
-    Next { source: Register, message: Register },
+    Next {
+        source: Register,
+        message: Register,
+    },
     /// `reply rR rT` replies to a request with a text.
-    Reply { request: Register, text: Register },
+    Reply {
+        request: Register,
+        text: Register,
+    },
     /// `clock rD` asks for the agreed clock and waits.
-    Clock { target: Register },
+    Clock {
+        target: Register,
+    },
     /// `seed` asks for the agreed seed and waits.
     Seed,
     /// `draw rD rN` draws a number below another.

@@ -3,6 +3,7 @@
 
 pub mod faults;
 pub mod instructions;
+pub mod laws;
 mod lines;
 pub mod numbers;
 pub mod operands;
@@ -11,4 +12,3 @@ mod printing;
 mod quotes;
 mod reading;
 pub mod scripts;
-

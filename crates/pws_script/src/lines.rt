@@ -129,7 +129,12 @@ fn text_set<'a>(line: &'a [u8], words: &[&'a str]) -> Option<(&'a str, &'a [u8])
 }
 
 #[tactic(auto, unfolding(crate::specs::Reading::text_set_at))]
-fn read_text_set(alloc: Global, ended: bool, word: &str, quoted: &[u8]) -> Result<Instruction, LineError>
+fn read_text_set(
+    alloc: Global,
+    ended: bool,
+    word: &str,
+    quoted: &[u8],
+) -> Result<Instruction, LineError>
     requires { 1 ≤ length quoted.now }
     ensures { Gives (λ i. i) result (text_set_at ended word.now quoted.now) }
 {
@@ -145,7 +150,12 @@ fn read_text_set(alloc: Global, ended: bool, word: &str, quoted: &[u8]) -> Resul
 }
 
 #[tactic(auto, unfolding(crate::specs::Reading::words_at))]
-fn read_words(alloc: Global, lines: u32, ended: bool, words: &[&str]) -> Result<Instruction, LineError>
+fn read_words(
+    alloc: Global,
+    lines: u32,
+    ended: bool,
+    words: &[&str],
+) -> Result<Instruction, LineError>
     requires { All (λ w. is_word w.now ≡ true) words.now }
     ensures { Gives (λ i. i) result (words_at lines ended (map (λ w. w.now) words.now)) }
 {
@@ -171,7 +181,12 @@ fn read_utf8(alloc: Global, lines: u32, ended: bool, line: &str) -> Result<Instr
 }
 
 /// The instruction of a line, which ends by a line feed or not, in a script of so many lines.
-pub(crate) fn read_line(alloc: Global, lines: u32, ended: bool, bytes: &[u8]) -> Result<Instruction, LineError>
+pub(crate) fn read_line(
+    alloc: Global,
+    lines: u32,
+    ended: bool,
+    bytes: &[u8],
+) -> Result<Instruction, LineError>
     requires { is_line bytes.now ≡ true }
     ensures { Gives (λ i. i) result (line_at lines ended bytes.now) }
 {

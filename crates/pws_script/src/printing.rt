@@ -121,7 +121,12 @@ fn put_set(text: &mut Writer, target: Register, literal: &Literal) -> Result<(),
     put_literal(text, literal)
 }
 
-fn put_field(text: &mut Writer, target: Register, message: Register, name: &Name) -> Result<(), Memory>
+fn put_field(
+    text: &mut Writer,
+    target: Register,
+    message: Register,
+    name: &Name,
+) -> Result<(), Memory>
     ensures { OnOk result (text.new ≡ text.old ++ spaced (register_text target ∷ register_text message ∷ name.now ∷ [])) }
 {
     put_two(text, target, message)?;
@@ -136,7 +141,13 @@ fn put_jump(text: &mut Writer, line: u32, test: Register) -> Result<(), Memory>
     put_operand_register(text, test)
 }
 
-fn put_call(text: &mut Writer, target: Register, group: Group, request: Register, timeout: u32) -> Result<(), Memory>
+fn put_call(
+    text: &mut Writer,
+    target: Register,
+    group: Group,
+    request: Register,
+    timeout: u32,
+) -> Result<(), Memory>
     ensures { OnOk result (text.new ≡ text.old ++ spaced (register_text target ∷ decimal group ∷ register_text request ∷ decimal timeout ∷ [])) }
 {
     put_operand_register(text, target)?;
@@ -154,7 +165,12 @@ fn put_calls(text: &mut Writer, registers: &[Register]) -> Result<(), Memory>
     Ok(())
 }
 
-fn put_await_any(text: &mut Writer, call: Register, message: Register, calls: &Calls) -> Result<(), Memory>
+fn put_await_any(
+    text: &mut Writer,
+    call: Register,
+    message: Register,
+    calls: &Calls,
+) -> Result<(), Memory>
     ensures { OnOk result (text.new ≡ text.old ++ spaced (register_text call ∷ register_text message ∷ map register_text calls.now)) }
 {
     put_two(text, call, message)?;
@@ -166,19 +182,55 @@ fn put_operands(text: &mut Writer, instruction: &Instruction) -> Result<(), Memo
 {
     match instruction {
         Instruction::Set { target, literal } => put_set(text, *target, literal),
-        Instruction::Add { target, left, right }
-        | Instruction::Sub { target, left, right }
-        | Instruction::Less { target, left, right }
-        | Instruction::Same { target, left, right }
-        | Instruction::Join { target, left, right } => put_three(text, *target, *left, *right),
+        Instruction::Add {
+            target,
+            left,
+            right,
+        }
+        | Instruction::Sub {
+            target,
+            left,
+            right,
+        }
+        | Instruction::Less {
+            target,
+            left,
+            right,
+        }
+        | Instruction::Same {
+            target,
+            left,
+            right,
+        }
+        | Instruction::Join {
+            target,
+            left,
+            right,
+        } => put_three(text, *target, *left, *right),
         Instruction::Jump { line, test } => put_jump(text, *line, *test),
-        Instruction::Field { target, message, name } => put_field(text, *target, *message, name),
+        Instruction::Field {
+            target,
+            message,
+            name,
+        } => put_field(text, *target, *message, name),
         Instruction::Receive { request, message } => put_two(text, *request, *message),
-        Instruction::Call { target, group, text: request, timeout } => put_call(text, *target, *group, *request, *timeout),
+        Instruction::Call {
+            target,
+            group,
+            text: request,
+            timeout,
+        } => put_call(text, *target, *group, *request, *timeout),
         Instruction::Await { message, call } => put_two(text, *message, *call),
-        Instruction::AwaitAny { call, message, calls } => put_await_any(text, *call, *message, calls),
+        Instruction::AwaitAny {
+            call,
+            message,
+            calls,
+        } => put_await_any(text, *call, *message, calls),
         Instruction::Next { source, message } => put_two(text, *source, *message),
-        Instruction::Reply { request, text: reply } => put_two(text, *request, *reply),
+        Instruction::Reply {
+            request,
+            text: reply,
+        } => put_two(text, *request, *reply),
         Instruction::Clock { target } => put_operand_register(text, *target),
         Instruction::Draw { target, modulus } => put_two(text, *target, *modulus),
         Instruction::Seed | Instruction::Stop => Ok(()),

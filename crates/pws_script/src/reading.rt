@@ -250,10 +250,7 @@ fn read_receive(words: &[&str]) -> Result<Instruction, ScriptFault>
     ensures { result ≡ of_two instruction.Receive (map (λ w. w.now) words.now) }
 {
     let (request, message) = read_two(words)?;
-    Ok(Instruction::Receive {
-        request,
-        message,
-    })
+    Ok(Instruction::Receive { request, message })
 }
 
 #[tactic(auto, unfolding(crate::specs::Reading::two_at))]
@@ -261,10 +258,7 @@ fn read_await(words: &[&str]) -> Result<Instruction, ScriptFault>
     ensures { result ≡ of_two instruction.Await (map (λ w. w.now) words.now) }
 {
     let (message, call) = read_two(words)?;
-    Ok(Instruction::Await {
-        message,
-        call,
-    })
+    Ok(Instruction::Await { message, call })
 }
 
 #[tactic(auto, unfolding(crate::specs::Reading::two_at))]
@@ -272,10 +266,7 @@ fn read_next(words: &[&str]) -> Result<Instruction, ScriptFault>
     ensures { result ≡ of_two instruction.Next (map (λ w. w.now) words.now) }
 {
     let (source, message) = read_two(words)?;
-    Ok(Instruction::Next {
-        source,
-        message,
-    })
+    Ok(Instruction::Next { source, message })
 }
 
 #[tactic(auto, unfolding(crate::specs::Reading::two_at))]
@@ -283,10 +274,7 @@ fn read_reply(words: &[&str]) -> Result<Instruction, ScriptFault>
     ensures { result ≡ of_two instruction.Reply (map (λ w. w.now) words.now) }
 {
     let (request, text) = read_two(words)?;
-    Ok(Instruction::Reply {
-        request,
-        text,
-    })
+    Ok(Instruction::Reply { request, text })
 }
 
 #[tactic(auto, unfolding(crate::specs::Reading::two_at))]
@@ -294,10 +282,7 @@ fn read_draw(words: &[&str]) -> Result<Instruction, ScriptFault>
     ensures { result ≡ of_two instruction.Draw (map (λ w. w.now) words.now) }
 {
     let (target, modulus) = read_two(words)?;
-    Ok(Instruction::Draw {
-        target,
-        modulus,
-    })
+    Ok(Instruction::Draw { target, modulus })
 }
 
 #[tactic(auto, unfolding(crate::specs::Reading::one_at))]
@@ -305,9 +290,7 @@ fn read_clock(words: &[&str]) -> Result<Instruction, ScriptFault>
     ensures { result ≡ of_one instruction.Clock (map (λ w. w.now) words.now) }
 {
     let target = read_one(words)?;
-    Ok(Instruction::Clock {
-        target,
-    })
+    Ok(Instruction::Clock { target })
 }
 
 /// The instruction of an operation with these words after it, in a script of so many lines.

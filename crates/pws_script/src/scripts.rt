@@ -20,7 +20,13 @@ use std::fmt;
 use std::marker::Model;
 
 /// The instruction of the line of this number.
-fn read_numbered(alloc: Global, lines: u32, number: u32, ended: bool, bytes: &[u8]) -> Result<Instruction, ReadScriptError>
+fn read_numbered(
+    alloc: Global,
+    lines: u32,
+    number: u32,
+    ended: bool,
+    bytes: &[u8],
+) -> Result<Instruction, ReadScriptError>
     requires { is_line bytes.now ≡ true }
     ensures { GivesLines (λ i. i) result (at_line number (line_at lines ended bytes.now)) }
 {

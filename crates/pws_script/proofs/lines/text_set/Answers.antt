@@ -1,5 +1,5 @@
 use Rattle.std.proofs.Common.{sym, ◌∙◌}
-use Rattle.pws_script.proofs.WordLemmas.{Three, three_up, past_two, text_set_found}
+use Rattle.pws_script.proofs.WordLemmas.{three_up, past_two, text_set_found}
 use Rattle.pws_script.proofs.lines.text_set.Goals as goal
 
 pub split_at-requires : goal.split_at-requires

@@ -1,4 +1,4 @@
-use Rattle.std.proofs.Common.{◌≡◌, sym, ◌∙◌, true}
+use Rattle.std.proofs.Common.{◌≡◌, ◌∙◌, true}
 use Rattle.pws_script.specs.Numbers.{is_decimal}
 use Rattle.pws_script.proofs.NumberLemmas.{number_parsed}
 use Rattle.pws_script.proofs.numbers.read_number.Goals as goal
