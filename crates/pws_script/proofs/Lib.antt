@@ -8,6 +8,7 @@ pub mod OperandsSpelled
 pub mod PieceLemmas
 pub mod TextRead
 pub mod TextSpelled
+pub mod RefusalLemmas
 pub mod ScriptLaws
 pub mod ScriptRead
 pub mod ScriptSpelled

@@ -52,7 +52,7 @@ register_test : (b : Bool) (o : Option ℕ) (n : ℕ) → (if b then o else None
 register_test true o n h = (refl, h)
 register_test false o n h = absurd (cc)
 
-register_of_is : (word : List ℕ) (n : ℕ) → register_of word ≡ Some n → (register_text n ≡ word) × (n < 32)
+pub register_of_is : (word : List ℕ) (n : ℕ) → register_of word ≡ Some n → (register_text n ≡ word) × (n < 32)
 unfolding register_text
 register_of_is [] n h = absurd (cc)
 register_of_is (c ∷ digits) n h =

@@ -3,7 +3,7 @@ use Rattle.std.proofs.Common.{◌≡◌, ℕ, suc, ◌<◌, ◌≤◌, ◌^◌, 
 use Rattle.std.proofs.lemmas.List.{length-map}
 use Rattle.std.specs.Str.{is_utf8}
 use Rattle.std.proofs.lemmas.Bool.Decides.{nat_tests}
-use Rattle.pws_script.specs.Numbers.{below}
+use Rattle.pws_script.specs.Numbers.{below, register_of}
 use Rattle.pws_script.specs.Texts.{is_name, is_word}
 use Rattle.pws_script.specs.Operations.{name_of, operation_named}
 use Rattle.pws_script.specs.Spelling.{register_text, operation_of, operands_of, two, three, IsRegister, AreTwo, AreThree, IsLawful}
@@ -22,9 +22,12 @@ below_read limit n h =
     let less : nat_lt n limit ≡ true = grind (arith, nat_tests, h) in
     rw less refl
 
-pub register_read : (n : ℕ) → n < 32 → register_at (register_text n) ≡ Ok n
+pub register_of_text : (n : ℕ) → n < 32 → register_of (register_text n) ≡ Some n
 unfolding register_text
-register_read n h = ap (or_fault fault.Register) (ap (below 32) (number_of-decimal n (omega arith)) ∙ below_read 32 n h)
+register_of_text n h = ap (below 32) (number_of-decimal n (omega arith)) ∙ below_read 32 n h
+
+pub register_read : (n : ℕ) → n < 32 → register_at (register_text n) ≡ Ok n
+register_read n h = ap (or_fault fault.Register) (register_of_text n h)
 
 pub number_read : (n : ℕ) → n < 2 ^ 64 → number_at (decimal n) ≡ Ok n
 number_read n h = ap (or_fault fault.Number) (number_of-decimal n h)

@@ -13,8 +13,7 @@ pub enum Literal {
 }
 
 impl ExactCopy for Literal {
-    fn copy(&self, alloc: Global) -> Result<Literal, Memory> {
-        let _ = alloc;
+    fn copy(&self, _alloc: Global) -> Result<Literal, Memory> {
         Ok(self.clone()?)
     }
 }
@@ -117,8 +116,7 @@ pub enum Instruction {
 }
 
 impl ExactCopy for Instruction {
-    fn copy(&self, alloc: Global) -> Result<Instruction, Memory> {
-        let _ = alloc;
+    fn copy(&self, _alloc: Global) -> Result<Instruction, Memory> {
         Ok(self.clone()?)
     }
 }

@@ -20,7 +20,7 @@ fn is_decimal(word: &[u8]) -> bool
 
 /// The number of which the word is the decimal, without leading zeros, below 2^64.
 #[tactic(auto, unfolding(crate::specs::Numbers::number_of))]
-pub fn read_number(word: &str) -> Option<u64>
+pub(crate) fn read_number(word: &str) -> Option<u64>
     ensures { result ≡ number_of word.now }
 {
     if is_decimal(word.as_bytes()) {
@@ -31,7 +31,7 @@ pub fn read_number(word: &str) -> Option<u64>
 }
 
 /// The number below a limit of which the word is the decimal.
-pub fn read_below(word: &str, limit: u64) -> Option<u64>
+pub(crate) fn read_below(word: &str, limit: u64) -> Option<u64>
     ensures { result ≡ below limit (number_of word.now) }
 {
     let number = read_number(word)?;
@@ -39,7 +39,7 @@ pub fn read_below(word: &str, limit: u64) -> Option<u64>
 }
 
 /// The register of which the word is the text.
-pub fn read_register(word: &str) -> Option<Register>
+pub(crate) fn read_register(word: &str) -> Option<Register>
     ensures { result ≡ register_of word.now }
 {
     let digits = word.strip_prefix('r')?;

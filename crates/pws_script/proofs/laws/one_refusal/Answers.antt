@@ -1,5 +1,0 @@
-use Rattle.pws_script.proofs.ScriptLaws.{one_refusal}
-use Rattle.pws_script.proofs.laws.one_refusal.Goals as goal
-
-pub returns : goal.returns
-returns c = one_refusal
