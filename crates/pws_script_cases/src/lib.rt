@@ -5,6 +5,7 @@
 mod tests {
     use pws_base::lists::ExactCopy;
     use pws_script::faults::{ReadScriptError, ScriptError, ScriptFault};
+    use pws_script::instructions::Instruction;
     use pws_script::scripts::Script;
     use std::alloc::{AllocError, Global};
     use std::test::Fail;
@@ -770,6 +771,27 @@ mod tests {
         assert_eq!(rt; number_1(rt.alloc())?, None);
         assert_eq!(rt; number_2(rt.alloc())?, None);
         assert_eq!(rt; target_1(rt.alloc())?, None);
+        Ok(())
+    }
+
+    fn is_copied(alloc: Global, instruction: &Instruction) -> Result<bool, Fail> {
+        let parts = match instruction {
+            Instruction::Set { literal, .. } => literal.copy(alloc)? == *literal,
+            Instruction::Field { name, .. } => name.copy(alloc)? == *name,
+            Instruction::AwaitAny { calls, .. } => calls.copy(alloc)? == *calls,
+            _ => true,
+        };
+        Ok(parts && instruction.copy(alloc)? == *instruction)
+    }
+
+    #[test]
+    fn operands_are_copied(rt: HostRuntime) -> Result<(), Fail> {
+        let text = b"set r0 \"x\"\nfield r0 r1 name\nawaitany r0 r1 r2 r3\n";
+        let script = Script::read(rt.alloc(), text)?;
+        assert_eq!(rt; script.instructions().len(), 3);
+        for instruction in script.instructions() {
+            assert!(rt; is_copied(rt.alloc(), instruction)?);
+        }
         Ok(())
     }
 }
