@@ -56,6 +56,15 @@ two a b = register_text a ∷ register_text b ∷ []
 abbrev pub three : ℕ → ℕ → ℕ → List (List ℕ)
 three a b c = register_text a ∷ two b c
 
+-- the texts of the operands of an instruction that puts what it makes of two registers into a third; none of any other
+abbrev pub three_of : Instruction → List (List ℕ)
+three_of (line.Add target left right) = three target left right
+three_of (line.Sub target left right) = three target left right
+three_of (line.Less target left right) = three target left right
+three_of (line.Same target left right) = three target left right
+three_of (line.Join target left right) = three target left right
+three_of other = []
+
 -- the texts of the operands, in order
 abbrev pub operands_of : Instruction → List (List ℕ)
 operands_of (line.Set target value) = register_text target ∷ literal_text value ∷ []

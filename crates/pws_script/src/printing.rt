@@ -2,7 +2,7 @@
 
 ghost use Rattle.std.specs.Prelude.{◌≡◌, ◌∷◌, ◌++◌, [], map, OnOk, codes, decimal};
 ghost use Rattle.std.specs.List.{flat_map};
-ghost use Rattle.pws_script.specs.Spelling.{register_text, escape, quoted, literal_text, operation_of, operands_of, spelling, spaced, two, three};
+ghost use Rattle.pws_script.specs.Spelling.{register_text, escape, quoted, literal_text, operation_of, operands_of, spelling, spaced, two, three, three_of};
 
 use crate::instructions::{Instruction, Literal};
 use crate::operands::{Calls, Group, Name, Register};
@@ -177,11 +177,10 @@ fn put_await_any(
     put_calls(text, calls.as_slice())
 }
 
-fn put_operands(text: &mut Writer, instruction: &Instruction) -> Result<(), Memory>
-    ensures { OnOk result (text.new ≡ text.old ++ spaced (operands_of instruction.now)) }
+fn put_three_of(text: &mut Writer, instruction: &Instruction) -> Result<(), Memory>
+    ensures { OnOk result (text.new ≡ text.old ++ spaced (three_of instruction.now)) }
 {
     match instruction {
-        Instruction::Set { target, literal } => put_set(text, *target, literal),
         Instruction::Add {
             target,
             left,
@@ -207,6 +206,20 @@ fn put_operands(text: &mut Writer, instruction: &Instruction) -> Result<(), Memo
             left,
             right,
         } => put_three(text, *target, *left, *right),
+        _ => Ok(()),
+    }
+}
+
+fn put_operands(text: &mut Writer, instruction: &Instruction) -> Result<(), Memory>
+    ensures { OnOk result (text.new ≡ text.old ++ spaced (operands_of instruction.now)) }
+{
+    match instruction {
+        Instruction::Set { target, literal } => put_set(text, *target, literal),
+        Instruction::Add { .. }
+        | Instruction::Sub { .. }
+        | Instruction::Less { .. }
+        | Instruction::Same { .. }
+        | Instruction::Join { .. } => put_three_of(text, instruction),
         Instruction::Jump { line, test } => put_jump(text, *line, *test),
         Instruction::Field {
             target,
