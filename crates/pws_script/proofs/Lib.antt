@@ -1,0 +1,16 @@
+pub mod LineLemmas
+pub mod LineRead
+pub mod LineSpelled
+pub mod NumberLemmas
+pub mod Onto
+pub mod OperandsRead
+pub mod OperandsSpelled
+pub mod PieceLemmas
+pub mod TextRead
+pub mod TextSpelled
+pub mod RefusalLemmas
+pub mod ScriptLaws
+pub mod ScriptRead
+pub mod ScriptSpelled
+pub mod TextLemmas
+pub mod WordLemmas
