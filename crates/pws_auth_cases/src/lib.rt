@@ -1,4 +1,5 @@
-//! Worked cases of HMAC, keys and tags, among them the vectors of RFC 4231, as one table.
+//! Worked cases of HMAC, keys and tags, among them the vectors of RFC 4231, as one table. The crate has no contract,
+//! and nothing stands on it.
 #![tactic(auto)]
 
 #[cfg(test)]

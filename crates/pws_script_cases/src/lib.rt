@@ -1,4 +1,4 @@
-//! Scripts with the answers expected: read, or refused at a line.
+//! Scripts with the answers expected: read, or refused at a line. The crate has no contract, and nothing stands on it.
 #![tactic(auto)]
 
 #[cfg(test)]

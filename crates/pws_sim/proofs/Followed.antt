@@ -30,7 +30,7 @@ follows_more places more p r place e before now m q room h takes n g f t a b =
       me = a ∙ f.me;
       layout = b ∙ f.layout;
       bytes = bytes_more places more p r m request h f.bytes;
-      effects = all_more 1 two_groups places more p r m request takes f.effects;
+      effects = all_more 1 two_groups places more p r m request (ap (λ (q : PlacedEvent). q.digest) q) takes f.effects;
     }
 
 -- the last place is never bare

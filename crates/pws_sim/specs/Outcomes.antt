@@ -55,14 +55,14 @@ abbrev pub EndsOn : (List ℕ → Outcome) → Option (List ℕ) → Option (Lis
 EndsOn ends None held now status = Unit {0}
 EndsOn ends (Some bytes) held now status = Ends (ends bytes) held now status
 
--- what is written with a status, whatever the source tells; what is written with Done is told by OnceOn
+-- what is written with Usage, Unbuilt and ReadFault, whatever the source tells; OnceOn tells what is written with Done
 abbrev pub Writes : Option (List ℕ) → Option (List ℕ) → Status → Type 0
 Writes held now Usage = Grows held now usage.text
 Writes held now Unbuilt = Grows held now unbuilt.text
 Writes held now ReadFault = Grows held now []
 Writes held now status = Unit {0}
 
--- Usage comes exactly where the words are no command, faults of the sink and want of memory aside
+-- Usage comes exactly where the words aren't the one word `run`, faults of the sink and want of memory aside
 abbrev pub UsageIff : Bool → Status → Type 0
 UsageIff true Usage = ⊥
 UsageIff true status = Unit {0}

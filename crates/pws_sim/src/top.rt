@@ -32,7 +32,8 @@ use std::alloc::Global;
 /// - `WriteFault` and a prefix of the text, only where the sink's faults rose in this call;
 /// - `Memory` and a prefix of the text.
 ///
-/// The first three yield to `WriteFault` and to `Memory`.
+/// The first three yield to `WriteFault` and to `Memory`, and `Done` to `ReadFault`. Where the source doesn't tell its
+/// bytes, no clause says which text is due to `WriteFault` and `Memory`.
 #[tactic(auto, using(crate::proofs::Done::reports_once))]
 pub fn sim_main<S: Source, K: Sink>(
     alloc: Global,
@@ -43,7 +44,7 @@ pub fn sim_main<S: Source, K: Sink>(
     // Over a source that tells its bytes, status and text are a function of words and bytes.
     ensures told { EndsOn (outcome (map (λ w. w.now) words.now)) (S.left source.old) (K.held sink.old) (K.held sink.new) result }
 
-    // What is written with each refusal, and when it comes, whatever the source tells.
+    // What is written with Usage, Unbuilt and ReadFault, and when each refusal comes, whatever the source tells.
     ensures written { Writes (K.held sink.old) (K.held sink.new) result }
     ensures usage { UsageIff (is_run (map (λ w. w.now) words.now)) result }
     ensures unbuilt { UnbuiltOn (is_run (map (λ w. w.now) words.now)) (S.left source.old) result }

@@ -38,7 +38,9 @@ fn numbers_are_written_and_read_high_byte_first(rt: HostRuntime) -> Result<(), F
 #[test]
 fn lists_are_copied(rt: HostRuntime) -> Result<(), Fail> {
     let mut list = Sequence::new(rt.alloc());
-    list.push(Bytes::from_slice(rt.alloc(), b"one")?)?;
+    let one = Bytes::from_slice(rt.alloc(), b"one")?;
+    assert_eq!(rt; one.clone()?, one);
+    list.push(one)?;
     list.push(Bytes::new(rt.alloc()))?;
     let copied = list.copy(rt.alloc())?;
     assert_eq!(rt; copied.as_slice(), list.as_slice());

@@ -2,7 +2,8 @@
 //! allocates once with ample memory.
 //!
 //! They show what no clause says: that the definitions mean what the worked cases say, that calls succeed with
-//! ample memory, and that a fault of the source or the sink is told where it comes.
+//! ample memory, and that a fault of the source or the sink is told where it comes. The crate has no contract, and
+//! nothing stands on it.
 #![tactic(auto)]
 
 #[cfg(test)]

@@ -91,9 +91,11 @@ fn other_texts_are_not_built(rt: HostRuntime) -> Result<(), Fail> {
 
 #[test]
 fn unknown_words_get_the_usage(rt: HostRuntime) -> Result<(), Fail> {
+    let alloc = rt.alloc();
+    let text = schedule(alloc, few_requests().first().ok_or("no case")?)?;
     let usage = b"usage: pws-sim run, gen NUMBER COUNT or vectors\n";
     for case in unknown_words() {
-        let (status, written) = run(rt.alloc(), case.words, "pws-schedule 1\n")?;
+        let (status, written) = run(alloc, case.words, text.as_str())?;
         assert_eq!(rt; status, Status::Usage, "{}", case.name);
         assert!(rt;
             written.as_slice() == usage.as_slice(),

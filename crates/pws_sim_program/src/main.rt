@@ -1,5 +1,7 @@
 //! The program `pws-sim`: `sim_main` over standard input and standard output, with the exit status that is its
 //! answer.
+//!
+//! It has no contract of its own: it makes the real objects and hands them on. Nothing stands on it.
 #![tactic(auto)]
 
 use pws_base::standard::{ReaderSource, WriterSink};
