@@ -1,0 +1,16 @@
+//! The text of elements.
+//!
+//! - `errors` tells what is refused in a text, and where.
+//! - `spaces` lists the namespaces that a tree uses, in order of first use.
+//! - `writing` writes the canonical text of a tree.
+//!
+//! The definitions of what a text stands for, and of each refusal, are in specs/: `Documents` and `Grammar` have the
+//! documents and their spelling, `Bindings` and `Meaning` the tree that a document stands for, `Faults` what is refused
+//! in one, `Reading` what reading answers, and `Canonical` the text that is written.
+#![tactic(auto)]
+
+pub mod errors;
+pub mod spaces;
+#[cfg(test)]
+mod tests;
+pub mod writing;
