@@ -1,11 +1,11 @@
 -- Children, one by one: the namespaces that they use, their text, and how large they are.
-use Rattle.std.proofs.Common.{◌≡◌, ℕ, zero, suc, ◌+◌, ◌<◌, ◌≤◌, List, [], ◌∷◌, ◌++◌, map, fold, length, drop, get_or, refl, ap, sym, ◌∙◌, arith, add-one, drop-cons, append_assoc, append-nil, length-append, Option, Some, None, slice_get, option_map}
+use Rattle.std.proofs.Common.{◌≡◌, ℕ, zero, suc, ◌+◌, ◌<◌, ◌≤◌, List, [], ◌∷◌, ◌++◌, fold, length, drop, get_or, refl, ap, sym, ◌∙◌, arith, add-one, drop-cons, append_assoc, append-nil, length-append, Some, None, slice_get}
 use Rattle.std.specs.List.{flat_map, enumerate_from}
-use Rattle.pws_tree.specs.Trees.{Tree, Nodes, NoNode, TextThen, QualifiedThen, ElementThen, marks}
+use Rattle.pws_tree.specs.Trees.{Tree, Nodes, NoNode, marks}
 use Rattle.pws_tree.specs.Nodes.{nodes_of, node_then, tree_size}
 use Rattle.pws_tree.specs.declared.trees.Node.{Node}
 use Rattle.pws_tree.specs.declared.trees.Node.TheVariants as node
-use Rattle.pws_mark.specs.Canonical.{with_space, tag_uses, uses, tree_uses, nodes_text, start_text, end_text, declaration_text, declarations_text}
+use Rattle.pws_mark.specs.Canonical.{with_space, tag_uses, uses, tree_uses, nodes_text, declaration_text, declarations_text}
 
 -- the item at an index comes first of what follows
 pub drop_from_item : {A : Type 0} (xs : List A) (i : ℕ) (x : A) → x ≡ get_or xs i x → i < length xs → drop i xs ≡ x ∷ drop (i + 1) xs

@@ -1,14 +1,10 @@
 -- What references, values and names stand for: XML 1.0 fifth edition, sections 2.11, 3.3.3, 4.1 and 4.6, and Namespaces
 -- in XML 1.0, sections 3 to 6. Characters are code points; namespaces, local names and values are bytes, in UTF-8.
-use Rattle.std.specs.Prelude.{ℕ, ◌+◌, ◌-◌, ◌*◌, Bool, true, false, not, ◌&&◌, ◌||◌, ◌==◌, nat_le, if◌then◌else◌, List, [], ◌∷◌, ◌++◌, length, drop, map, filter, fold, find, take_while, option_map, Option, Some, None, unwrap_or, is_none, codes, encode_utf8, encode_utf8_all}
+use Rattle.std.specs.Prelude.{ℕ, ◌+◌, ◌-◌, ◌*◌, Bool, false, not, ◌&&◌, ◌||◌, ◌==◌, nat_le, if◌then◌else◌, List, [], ◌∷◌, ◌++◌, length, drop, filter, fold, find, take_while, option_map, Option, Some, None, unwrap_or, is_none, codes, encode_utf8, encode_utf8_all}
 use Rattle.std.specs.List.{list_any, filter_map}
-use Rattle.std.specs.Option.{option_and_then}
 use Rattle.std.specs.Str.{bytes_eq}
-use Rattle.std.specs.Ordering.{is_lt}
 use Rattle.pws_tree.specs.Characters.{is_xml_char}
-use Rattle.pws_tree.specs.Names.{name_cmp, xmlns_space}
 use Rattle.pws_tree.specs.declared.texts.Name.{Name}
-use Rattle.pws_tree.specs.declared.texts.Attr.{Attr}
 use Rattle.pws_mark.specs.Canonical.{xml_space, xml_word}
 use Rattle.pws_mark.specs.Documents.{Piece, Char, Entity, Decimal, Hexadecimal, Attribute, Tag}
 

@@ -1,13 +1,13 @@
 -- What is refused in a document of the grammar: what it is, where it stands, and where what shows it is complete.
 -- Which places are told is this project's own rule.
-use Rattle.std.specs.Prelude.{ℕ, ◌+◌, Bool, true, false, not, ◌&&◌, ◌||◌, ◌==◌, nat_le, if◌then◌else◌, List, [], ◌∷◌, ◌++◌, length, Option, Some, None, is_none, encode_utf8, encode_utf8_all}
-use Rattle.std.specs.List.{flat_map, list_any}
+use Rattle.std.specs.Prelude.{ℕ, ◌+◌, Bool, true, false, not, ◌&&◌, ◌||◌, nat_le, if◌then◌else◌, List, [], ◌∷◌, ◌++◌, length, Option, Some, None, is_none, encode_utf8, encode_utf8_all}
+use Rattle.std.specs.List.{list_any}
 use Rattle.std.specs.Str.{bytes_eq}
 use Rattle.pws_tree.specs.Names.{is_value, xmlns_space}
 use Rattle.pws_tree.specs.declared.texts.Name.{Name}
 use Rattle.pws_mark.specs.Canonical.{xml_space, xml_word}
 use Rattle.pws_mark.specs.Documents.{Piece, Attribute, Tag, Content, Nothing, Text, Section, Comment, Hollow, Element, Document, spell_piece, spell_attribute, spell_tag, spell_content, spell_prolog, section_start, section_end, comment_start, comment_end}
-use Rattle.pws_mark.specs.Bindings.{Bindings, piece_char, value_of, has_colon, written_prefix, has_two_colons, declared_prefix, bound_by, outermost, is_bound, element_name, attribute_name, xmlns_word}
+use Rattle.pws_mark.specs.Bindings.{Bindings, piece_char, value_of, written_prefix, has_two_colons, declared_prefix, bound_by, outermost, is_bound, element_name, attribute_name, xmlns_word}
 use Rattle.pws_mark.specs.Meaning.{Marked, letters, name_within}
 use Rattle.pws_mark.specs.declared.errors.MarkKind.{MarkKind}
 use Rattle.pws_mark.specs.declared.errors.MarkKind.TheVariants as kind

@@ -1,7 +1,6 @@
 -- The tree that a document stands for.
-use Rattle.std.specs.Prelude.{ℕ, ◌+◌, Bool, true, false, not, ◌&&◌, ◌||◌, ◌==◌, if◌then◌else◌, List, [], ◌∷◌, ◌++◌, length, map, filter, take_while, drop, option_map, Option, Some, None, unwrap_or, is_none, encode_utf8, encode_utf8_all}
+use Rattle.std.specs.Prelude.{ℕ, ◌+◌, Bool, true, false, not, ◌&&◌, ◌==◌, if◌then◌else◌, List, [], ◌∷◌, ◌++◌, length, map, take_while, drop, option_map, Option, Some, None, unwrap_or, is_none, encode_utf8, encode_utf8_all}
 use Rattle.std.specs.List.{list_all, filter_map}
-use Rattle.std.specs.Char.{len_utf8}
 use Rattle.std.specs.Option.{option_and_then}
 use Rattle.std.specs.Str.{bytes_eq}
 use Rattle.std.specs.Ordering.{is_lt}
@@ -9,7 +8,7 @@ use Rattle.pws_tree.specs.Names.{name_cmp, is_value}
 use Rattle.pws_tree.specs.Trees.{Tree, Nodes, NoNode, TextThen, QualifiedThen, ElementThen}
 use Rattle.pws_tree.specs.declared.texts.Name.{Name}
 use Rattle.pws_tree.specs.declared.texts.Attr.{Attr}
-use Rattle.pws_mark.specs.Documents.{Piece, Tag, Attribute, Content, Nothing, Text, Section, Comment, Hollow, Element, Document, spell_piece, section_start, section_end, comment_start, comment_end}
+use Rattle.pws_mark.specs.Documents.{Tag, Attribute, Content, Nothing, Text, Section, Comment, Hollow, Element, Document, spell_piece, section_start, section_end, comment_start, comment_end}
 use Rattle.pws_mark.specs.Grammar.{is_white, is_name}
 use Rattle.pws_mark.specs.Bindings.{Bindings, piece_char, is_char, value_of, declared_prefix, bound_by, outermost, element_name, attribute_name, has_two_colons}
 

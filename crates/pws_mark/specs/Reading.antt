@@ -1,10 +1,10 @@
 -- What reading answers; the order of the refusals and their places are this project's own rule.
-use Rattle.std.specs.Prelude.{◌≡◌, ◌⊎◌, ℕ, ◌+◌, ◌<◌, ◌≤◌, Bool, true, false, ◌&&◌, ◌||◌, nat_le, nat_lt, List, [], ◌∷◌, ◌++◌, length, take, drop, Contains, IsTrue, Result, Ok, Err, codes, nat_eq, encode_utf8_all}
+use Rattle.std.specs.Prelude.{◌≡◌, ◌⊎◌, ℕ, ◌+◌, ◌<◌, ◌≤◌, Bool, false, ◌&&◌, ◌||◌, nat_le, nat_lt, List, [], ◌∷◌, ◌++◌, length, take, drop, Contains, IsTrue, Result, Ok, Err, codes, nat_eq, encode_utf8_all}
 use Rattle.std.specs.List.{list_any, starts_with}
 use Rattle.std.specs.Str.{IsUtf8, IsValidUpTo}
 use Rattle.pws_tree.specs.Trees.{Tree}
-use Rattle.pws_mark.specs.Documents.{Content, Nothing, Text, Section, Comment, Hollow, Element, Document, spell_piece, spell_tag, spell_content, spell_head, spell_prolog, section_start, section_end, comment_start, comment_end}
-use Rattle.pws_mark.specs.Grammar.{is_white, Spells, IsText, Completes, IsViable, IsLongest}
+use Rattle.pws_mark.specs.Documents.{Content, Nothing, Text, Section, Comment, Hollow, Element, Document, spell_piece, spell_content, spell_head, spell_prolog, section_start, section_end, comment_start, comment_end}
+use Rattle.pws_mark.specs.Grammar.{Spells, IsText, Completes, IsLongest}
 use Rattle.pws_mark.specs.Meaning.{meaning}
 use Rattle.pws_mark.specs.Faults.{Fault, faults, open_length, close_length}
 use Rattle.pws_mark.specs.declared.errors.MarkKind.{MarkKind}

@@ -1,5 +1,5 @@
 use Rattle.std.proofs.Common.{arith}
-use Rattle.pws_mark.proofs.Walks.{child_falls, put_step, put_all}
+use Rattle.pws_mark.proofs.Walks.{child_falls}
 use Rattle.pws_mark.proofs.writing.+putting.Goals as goal
 
 pub put_children-put_child-requires : goal.put_children-put_child-requires

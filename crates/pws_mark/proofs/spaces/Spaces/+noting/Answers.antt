@@ -1,5 +1,5 @@
 use Rattle.std.proofs.Common.{arith}
-use Rattle.pws_mark.proofs.Walks.{child_falls, note_step, noted_all}
+use Rattle.pws_mark.proofs.Walks.{child_falls}
 use Rattle.pws_mark.proofs.spaces.Spaces.+noting.Goals as goal
 
 pub note_element-note_child-requires : goal.note_element-note_child-requires

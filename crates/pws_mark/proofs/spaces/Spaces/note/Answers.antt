@@ -1,4 +1,4 @@
-use Rattle.std.proofs.Common.{ap, sym, ◌∙◌, Bor}
+use Rattle.std.proofs.Common.{ap, sym, ◌∙◌}
 use Rattle.pws_mark.specs.Canonical.{with_space}
 use Rattle.pws_mark.proofs.Keys.{texts_of, keys_noted}
 use Rattle.pws_mark.proofs.spaces.Spaces.note.Goals as goal
