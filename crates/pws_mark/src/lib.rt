@@ -11,6 +11,13 @@
 
 pub mod errors;
 pub mod spaces;
+ghost use Rattle.pws_mark.specs.Examples.{WorkedTexts};
+
+/// The definitions agree with worked texts: one that is read and written again, and some that are refused.
+pub fn worked_texts()
+    ensures { WorkedTexts }
+{}
+
 #[cfg(test)]
 mod tests;
 pub mod writing;

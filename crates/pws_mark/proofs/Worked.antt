@@ -1,0 +1,133 @@
+-- The worked texts.
+use Rattle.std.specs.Prelude.{◌≡◌, ℕ, Bool, true, false, ◌&&◌, List, [], ◌∷◌, Some, None, refl, length, nat_le, encode_utf8_all, filter, nat_eq, encode_utf8}
+use Rattle.std.specs.Str.{bytes_eq, is_utf8, chars}
+use lib.Utf8.{encode}
+use Rattle.std.specs.Fmt.{digits, decimal}
+use Rattle.pws_tree.specs.Lawful.{is_lawful}
+use Rattle.pws_tree.specs.Characters.{xml_ranges, name_start_ranges, name_more_ranges, is_xml_text, is_local_name}
+use Rattle.pws_tree.specs.Names.{xmlns_space, xmlns_word, envelope_space, value_word}
+use Rattle.pws_mark.specs.Canonical.{canonical, xml_space, xml_word, text_byte, value_byte, declaration_word}
+use Rattle.pws_mark.specs.Documents.{Document, Piece, Char, Entity, Decimal, Hexadecimal, Attribute, Tag, Content, Nothing, Text, Section, Comment, Hollow, Element, Pseudo, Declaration, spell, section_start, section_end, comment_start, comment_end}
+use Rattle.pws_mark.specs.Grammar.{is_document, is_name}
+use Rattle.pws_mark.specs.Bindings.{xmlns_word as xmlns_bytes, entity_char, number_of, bound_by, outermost}
+use Rattle.pws_mark.specs.Meaning.{meaning, attrs_of, name_of, with_text, qualified_in}
+use Rattle.pws_mark.specs.Faults.{Fault, faults, if_wrong}
+use Rattle.pws_mark.specs.declared.errors.MarkKind.{MarkKind}
+use Rattle.pws_mark.specs.declared.errors.MarkKind.TheVariants as kind
+use Rattle.std.specs.Prelude.{codes, take, IsTrue, Contains, zero, suc, ◌<◌, ◌+◌}
+use Rattle.std.proofs.Common.{arith, inl, lit≤, lit<}
+use Rattle.pws_mark.specs.Reading.{Means, IsCause, HasFault, HasDoctype, HasInstruction}
+use Rattle.pws_mark.specs.Grammar.{Spells, Completes, IsViable, IsLongest}
+use Rattle.pws_mark.specs.Examples.{WorkedTexts, IsWrittenAs, toolkit_text, toolkit_written}
+
+toolkit_document : Document
+toolkit_document = record { mark = false; declaration = Some (record { version = record { gap = 32 ∷ []; before = []; after = []; quote = 34; value = 49 ∷ 46 ∷ 48 ∷ [] }; encoding = Some (record { gap = 32 ∷ []; before = []; after = []; quote = 34; value = 85 ∷ 84 ∷ 70 ∷ 45 ∷ 56 ∷ [] }); standalone = None; gap = [] }); before = Text (Char 13) (Text (Char 10) (Nothing)); root = Element (record { name = 115 ∷ 111 ∷ 97 ∷ 112 ∷ 101 ∷ 110 ∷ 118 ∷ 58 ∷ 69 ∷ 110 ∷ 118 ∷ 101 ∷ 108 ∷ 111 ∷ 112 ∷ 101 ∷ []; attributes = (record { gap = 32 ∷ []; name = 120 ∷ 109 ∷ 108 ∷ 110 ∷ 115 ∷ 58 ∷ 115 ∷ 111 ∷ 97 ∷ 112 ∷ 101 ∷ 110 ∷ 118 ∷ []; before = []; after = []; quote = 34; value = (Char 104) ∷ (Char 116) ∷ (Char 116) ∷ (Char 112) ∷ (Char 58) ∷ (Char 47) ∷ (Char 47) ∷ (Char 119) ∷ (Char 119) ∷ (Char 119) ∷ (Char 46) ∷ (Char 119) ∷ (Char 51) ∷ (Char 46) ∷ (Char 111) ∷ (Char 114) ∷ (Char 103) ∷ (Char 47) ∷ (Char 50) ∷ (Char 48) ∷ (Char 48) ∷ (Char 51) ∷ (Char 47) ∷ (Char 48) ∷ (Char 53) ∷ (Char 47) ∷ (Char 115) ∷ (Char 111) ∷ (Char 97) ∷ (Char 112) ∷ (Char 45) ∷ (Char 101) ∷ (Char 110) ∷ (Char 118) ∷ (Char 101) ∷ (Char 108) ∷ (Char 111) ∷ (Char 112) ∷ (Char 101) ∷ [] }) ∷ (record { gap = 32 ∷ []; name = 120 ∷ 109 ∷ 108 ∷ 110 ∷ 115 ∷ 58 ∷ 119 ∷ 115 ∷ 97 ∷ []; before = []; after = []; quote = 34; value = (Char 104) ∷ (Char 116) ∷ (Char 116) ∷ (Char 112) ∷ (Char 58) ∷ (Char 47) ∷ (Char 47) ∷ (Char 119) ∷ (Char 119) ∷ (Char 119) ∷ (Char 46) ∷ (Char 119) ∷ (Char 51) ∷ (Char 46) ∷ (Char 111) ∷ (Char 114) ∷ (Char 103) ∷ (Char 47) ∷ (Char 50) ∷ (Char 48) ∷ (Char 48) ∷ (Char 53) ∷ (Char 47) ∷ (Char 48) ∷ (Char 56) ∷ (Char 47) ∷ (Char 97) ∷ (Char 100) ∷ (Char 100) ∷ (Char 114) ∷ (Char 101) ∷ (Char 115) ∷ (Char 115) ∷ (Char 105) ∷ (Char 110) ∷ (Char 103) ∷ [] }) ∷ []; gap = [] }) (Element (record { name = 115 ∷ 111 ∷ 97 ∷ 112 ∷ 101 ∷ 110 ∷ 118 ∷ 58 ∷ 72 ∷ 101 ∷ 97 ∷ 100 ∷ 101 ∷ 114 ∷ []; attributes = []; gap = [] }) (Element (record { name = 119 ∷ 115 ∷ 97 ∷ 58 ∷ 65 ∷ 99 ∷ 116 ∷ 105 ∷ 111 ∷ 110 ∷ []; attributes = (record { gap = 32 ∷ []; name = 115 ∷ 111 ∷ 97 ∷ 112 ∷ 101 ∷ 110 ∷ 118 ∷ 58 ∷ 109 ∷ 117 ∷ 115 ∷ 116 ∷ 85 ∷ 110 ∷ 100 ∷ 101 ∷ 114 ∷ 115 ∷ 116 ∷ 97 ∷ 110 ∷ 100 ∷ []; before = []; after = []; quote = 34; value = (Char 49) ∷ [] }) ∷ []; gap = [] }) (Text (Char 117) (Text (Char 114) (Text (Char 110) (Text (Char 58) (Text (Char 115) (Text (Char 104) (Text (Char 111) (Text (Char 112) (Text (Char 58) (Text (Char 111) (Text (Char 114) (Text (Char 100) (Text (Char 101) (Text (Char 114) Nothing)))))))))))))) ([]) Nothing) ([]) (Element (record { name = 115 ∷ 111 ∷ 97 ∷ 112 ∷ 101 ∷ 110 ∷ 118 ∷ 58 ∷ 66 ∷ 111 ∷ 100 ∷ 121 ∷ []; attributes = []; gap = [] }) (Comment (32 ∷ 111 ∷ 110 ∷ 101 ∷ 32 ∷ []) (Element (record { name = 111 ∷ 114 ∷ 100 ∷ 101 ∷ 114 ∷ []; attributes = (record { gap = 32 ∷ []; name = 120 ∷ 109 ∷ 108 ∷ 110 ∷ 115 ∷ []; before = []; after = []; quote = 34; value = (Char 117) ∷ (Char 114) ∷ (Char 110) ∷ (Char 58) ∷ (Char 115) ∷ (Char 104) ∷ (Char 111) ∷ (Char 112) ∷ [] }) ∷ []; gap = [] }) (Element (record { name = 105 ∷ 116 ∷ 101 ∷ 109 ∷ []; attributes = []; gap = [] }) (Section (97 ∷ 60 ∷ 98 ∷ []) Nothing) ([]) Nothing) ([]) Nothing)) ([]) Nothing)) ([]) Nothing; after = Nothing }
+
+prefix_document : Document
+prefix_document = record { mark = false; declaration = None; before = Nothing; root = Element (record { name = 112 ∷ 58 ∷ 97 ∷ []; attributes = []; gap = [] }) (Nothing) ([]) Nothing; after = Nothing }
+
+twice_document : Document
+twice_document = record { mark = false; declaration = None; before = Nothing; root = Hollow (record { name = 97 ∷ []; attributes = (record { gap = 32 ∷ []; name = 98 ∷ []; before = []; after = []; quote = 39; value = (Char 49) ∷ [] }) ∷ (record { gap = 32 ∷ []; name = 98 ∷ []; before = []; after = []; quote = 39; value = (Char 50) ∷ [] }) ∷ []; gap = [] }) Nothing; after = Nothing }
+
+entity_document : Document
+entity_document = record { mark = false; declaration = None; before = Nothing; root = Element (record { name = 97 ∷ []; attributes = []; gap = [] }) (Text (Entity (102 ∷ [])) Nothing) ([]) Nothing; after = Nothing }
+
+value_document : Document
+value_document = record { mark = false; declaration = None; before = Nothing; root = Element (record { name = 101 ∷ 58 ∷ 86 ∷ 97 ∷ 108 ∷ 117 ∷ 101 ∷ []; attributes = (record { gap = 32 ∷ []; name = 120 ∷ 109 ∷ 108 ∷ 110 ∷ 115 ∷ 58 ∷ 101 ∷ []; before = []; after = []; quote = 39; value = (Char 104) ∷ (Char 116) ∷ (Char 116) ∷ (Char 112) ∷ (Char 58) ∷ (Char 47) ∷ (Char 47) ∷ (Char 119) ∷ (Char 119) ∷ (Char 119) ∷ (Char 46) ∷ (Char 119) ∷ (Char 51) ∷ (Char 46) ∷ (Char 111) ∷ (Char 114) ∷ (Char 103) ∷ (Char 47) ∷ (Char 50) ∷ (Char 48) ∷ (Char 48) ∷ (Char 51) ∷ (Char 47) ∷ (Char 48) ∷ (Char 53) ∷ (Char 47) ∷ (Char 115) ∷ (Char 111) ∷ (Char 97) ∷ (Char 112) ∷ (Char 45) ∷ (Char 101) ∷ (Char 110) ∷ (Char 118) ∷ (Char 101) ∷ (Char 108) ∷ (Char 111) ∷ (Char 112) ∷ (Char 101) ∷ [] }) ∷ []; gap = [] }) (Text (Char 49) Nothing) ([]) Nothing; after = Nothing }
+
+any_document : Document
+any_document = record { mark = false; declaration = None; before = Nothing; root = Hollow (record { name = 97 ∷ []; attributes = []; gap = [] }) Nothing; after = Nothing }
+
+half_document : Document
+half_document = record { mark = false; declaration = None; before = Comment [] (Nothing); root = Hollow (record { name = 97 ∷ []; attributes = []; gap = [] }) Nothing; after = Nothing }
+
+inside_document : Document
+inside_document = record { mark = false; declaration = None; before = Nothing; root = Hollow (record { name = 97 ∷ []; attributes = (record { gap = 32 ∷ []; name = 98 ∷ []; before = []; after = []; quote = 39; value = [] }) ∷ []; gap = [] }) Nothing; after = Nothing }
+
+toolkit_is : IsWrittenAs toolkit_text toolkit_written
+unfolding xml_ranges name_start_ranges name_more_ranges is_xml_text is_local_name xmlns_space xmlns_word envelope_space value_word xml_space xml_word text_byte value_byte declaration_word section_start section_end comment_start comment_end is_name xmlns_bytes entity_char number_of bound_by outermost attrs_of name_of with_text qualified_in is_utf8 chars digits encode toolkit_text toolkit_written toolkit_document prefix_document twice_document entity_document value_document any_document half_document inside_document
+toolkit_is = record {
+  tree = meaning toolkit_document;
+  means = record { document = toolkit_document; spells = record { lawful = refl; spelled = refl }; faultless = refl; tree = refl };
+  canonical_is = refl;
+}
+
+prefix_is : HasFault (codes "<p:a></p:a>") kind.Prefix 1
+unfolding xml_ranges name_start_ranges name_more_ranges is_xml_text is_local_name xmlns_space xmlns_word envelope_space value_word xml_space xml_word text_byte value_byte declaration_word section_start section_end comment_start comment_end is_name xmlns_bytes entity_char number_of bound_by outermost attrs_of name_of with_text qualified_in is_utf8 chars digits encode toolkit_text toolkit_written toolkit_document prefix_document twice_document entity_document value_document any_document half_document inside_document
+prefix_is = record {
+  size = 11;
+  longest = record { within = lit≤ tt; viable = (prefix_document, ([], record { lawful = refl; spelled = refl })); next = λ h. absurd (omega arith) };
+  document = prefix_document;
+  completes = ([], record { lawful = refl; spelled = refl });
+  fault = record { kind = kind.Prefix; at = 1; end = 5 };
+  among = (0, lit< tt, refl);
+  kind_is = refl;
+  at_is = refl;
+  complete = lit≤ tt;
+}
+
+twice_is : HasFault (codes "<a b='1' b='2'/>") kind.Twice 9
+unfolding xml_ranges name_start_ranges name_more_ranges is_xml_text is_local_name xmlns_space xmlns_word envelope_space value_word xml_space xml_word text_byte value_byte declaration_word section_start section_end comment_start comment_end is_name xmlns_bytes entity_char number_of bound_by outermost attrs_of name_of with_text qualified_in is_utf8 chars digits encode toolkit_text toolkit_written toolkit_document prefix_document twice_document entity_document value_document any_document half_document inside_document
+twice_is = record {
+  size = 16;
+  longest = record { within = lit≤ tt; viable = (twice_document, ([], record { lawful = refl; spelled = refl })); next = λ h. absurd (omega arith) };
+  document = twice_document;
+  completes = ([], record { lawful = refl; spelled = refl });
+  fault = record { kind = kind.Twice; at = 9; end = 16 };
+  among = (0, lit< tt, refl);
+  kind_is = refl;
+  at_is = refl;
+  complete = lit≤ tt;
+}
+
+entity_is : HasFault (codes "<a>&f;</a>") kind.Entity 3
+unfolding xml_ranges name_start_ranges name_more_ranges is_xml_text is_local_name xmlns_space xmlns_word envelope_space value_word xml_space xml_word text_byte value_byte declaration_word section_start section_end comment_start comment_end is_name xmlns_bytes entity_char number_of bound_by outermost attrs_of name_of with_text qualified_in is_utf8 chars digits encode toolkit_text toolkit_written toolkit_document prefix_document twice_document entity_document value_document any_document half_document inside_document
+entity_is = record {
+  size = 10;
+  longest = record { within = lit≤ tt; viable = (entity_document, ([], record { lawful = refl; spelled = refl })); next = λ h. absurd (omega arith) };
+  document = entity_document;
+  completes = ([], record { lawful = refl; spelled = refl });
+  fault = record { kind = kind.Entity; at = 3; end = 6 };
+  among = (0, lit< tt, refl);
+  kind_is = refl;
+  at_is = refl;
+  complete = lit≤ tt;
+}
+
+value_is : HasFault (codes "<e:Value xmlns:e='http://www.w3.org/2003/05/soap-envelope'>1</e:Value>") kind.Syntax 0
+unfolding xml_ranges name_start_ranges name_more_ranges is_xml_text is_local_name xmlns_space xmlns_word envelope_space value_word xml_space xml_word text_byte value_byte declaration_word section_start section_end comment_start comment_end is_name xmlns_bytes entity_char number_of bound_by outermost attrs_of name_of with_text qualified_in is_utf8 chars digits encode toolkit_text toolkit_written toolkit_document prefix_document twice_document entity_document value_document any_document half_document inside_document
+value_is = record {
+  size = 70;
+  longest = record { within = lit≤ tt; viable = (value_document, ([], record { lawful = refl; spelled = refl })); next = λ h. absurd (omega arith) };
+  document = value_document;
+  completes = ([], record { lawful = refl; spelled = refl });
+  fault = record { kind = kind.Syntax; at = 0; end = 70 };
+  among = (0, lit< tt, refl);
+  kind_is = refl;
+  at_is = refl;
+  complete = lit≤ tt;
+}
+
+doctype_is : HasDoctype (codes "<!DOCTYPE a><a></a>") 0
+unfolding xml_ranges name_start_ranges name_more_ranges is_xml_text is_local_name xmlns_space xmlns_word envelope_space value_word xml_space xml_word text_byte value_byte declaration_word section_start section_end comment_start comment_end is_name xmlns_bytes entity_char number_of bound_by outermost attrs_of name_of with_text qualified_in is_utf8 chars digits encode toolkit_text toolkit_written toolkit_document prefix_document twice_document entity_document value_document any_document half_document inside_document
+doctype_is = record { document = any_document; completes = (spell any_document, record { lawful = refl; spelled = refl }); stands = refl; behind = omega arith; before = omega arith; outside = refl }
+
+half_is : HasDoctype (codes "<!-<!DOCTYPE a><a/>") 3
+unfolding xml_ranges name_start_ranges name_more_ranges is_xml_text is_local_name xmlns_space xmlns_word envelope_space value_word xml_space xml_word text_byte value_byte declaration_word section_start section_end comment_start comment_end is_name xmlns_bytes entity_char number_of bound_by outermost attrs_of name_of with_text qualified_in is_utf8 chars digits encode toolkit_text toolkit_written toolkit_document prefix_document twice_document entity_document value_document any_document half_document inside_document
+half_is = record { document = half_document; completes = (codes "---><a/>", record { lawful = refl; spelled = refl }); stands = refl; behind = omega arith; before = lit≤ tt; outside = refl }
+
+inside_is : HasInstruction (codes "<a b='<?x?>'/>") 6
+unfolding xml_ranges name_start_ranges name_more_ranges is_xml_text is_local_name xmlns_space xmlns_word envelope_space value_word xml_space xml_word text_byte value_byte declaration_word section_start section_end comment_start comment_end is_name xmlns_bytes entity_char number_of bound_by outermost attrs_of name_of with_text qualified_in is_utf8 chars digits encode toolkit_text toolkit_written toolkit_document prefix_document twice_document entity_document value_document any_document half_document inside_document
+inside_is = record { document = inside_document; completes = (codes "'/>", record { lawful = refl; spelled = refl }); stands = refl; undeclared = refl; outside = refl }
+
+pub worked : WorkedTexts
+worked = record {
+  toolkit = toolkit_is;
+  prefix = prefix_is;
+  twice = twice_is;
+  entity = entity_is;
+  value = inl value_is;
+  doctype = doctype_is;
+  doctype_after_half_a_comment = half_is;
+  instruction_inside_a_value = inside_is;
+}
