@@ -1,23 +1,19 @@
 -- The worked texts.
-use Rattle.std.specs.Prelude.{◌≡◌, ℕ, Bool, true, false, ◌&&◌, List, [], ◌∷◌, Some, None, refl, length, nat_le, encode_utf8_all, filter, nat_eq, encode_utf8}
-use Rattle.std.specs.Str.{bytes_eq, is_utf8, chars}
+use Rattle.std.specs.Prelude.{false, [], ◌∷◌, Some, None, refl}
+use Rattle.std.specs.Str.{is_utf8, chars}
 use lib.Utf8.{encode}
-use Rattle.std.specs.Fmt.{digits, decimal}
-use Rattle.pws_tree.specs.Lawful.{is_lawful}
+use Rattle.std.specs.Fmt.{digits}
 use Rattle.pws_tree.specs.Characters.{xml_ranges, name_start_ranges, name_more_ranges, is_xml_text, is_local_name}
 use Rattle.pws_tree.specs.Names.{xmlns_space, xmlns_word, envelope_space, value_word}
-use Rattle.pws_mark.specs.Canonical.{canonical, xml_space, xml_word, text_byte, value_byte, declaration_word}
-use Rattle.pws_mark.specs.Documents.{Document, Piece, Char, Entity, Decimal, Hexadecimal, Attribute, Tag, Content, Nothing, Text, Section, Comment, Hollow, Element, Pseudo, Declaration, spell, section_start, section_end, comment_start, comment_end}
-use Rattle.pws_mark.specs.Grammar.{is_document, is_name}
+use Rattle.pws_mark.specs.Canonical.{xml_space, xml_word, text_byte, value_byte, declaration_word}
+use Rattle.pws_mark.specs.Documents.{Document, Char, Entity, Decimal, Hexadecimal, Nothing, Text, Section, Comment, Hollow, Element, spell, section_start, section_end, comment_start, comment_end}
+use Rattle.pws_mark.specs.Grammar.{is_name}
 use Rattle.pws_mark.specs.Bindings.{xmlns_word as xmlns_bytes, entity_char, number_of, bound_by, outermost}
 use Rattle.pws_mark.specs.Meaning.{meaning, attrs_of, name_of, with_text, qualified_in}
-use Rattle.pws_mark.specs.Faults.{Fault, faults, if_wrong}
-use Rattle.pws_mark.specs.declared.errors.MarkKind.{MarkKind}
 use Rattle.pws_mark.specs.declared.errors.MarkKind.TheVariants as kind
-use Rattle.std.specs.Prelude.{codes, take, IsTrue, Contains, zero, suc, ◌<◌, ◌+◌}
+use Rattle.std.specs.Prelude.{codes}
 use Rattle.std.proofs.Common.{arith, inl, lit≤, lit<}
-use Rattle.pws_mark.specs.Reading.{Means, IsCause, HasFault, HasDoctype, HasInstruction}
-use Rattle.pws_mark.specs.Grammar.{Spells, Completes, IsViable, IsLongest}
+use Rattle.pws_mark.specs.Reading.{HasFault, HasDoctype, HasInstruction}
 use Rattle.pws_mark.specs.Examples.{WorkedTexts, IsWrittenAs, toolkit_text, toolkit_written}
 
 toolkit_document : Document

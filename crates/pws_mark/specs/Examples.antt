@@ -1,5 +1,5 @@
 -- Worked texts, by which the definitions can be judged.
-use Rattle.std.specs.Prelude.{◌≡◌, ℕ, List, [], ◌∷◌, ◌++◌, codes}
+use Rattle.std.specs.Prelude.{◌≡◌, ℕ, List, ◌∷◌, ◌++◌, codes}
 use Rattle.pws_tree.specs.Trees.{Tree}
 use Rattle.pws_mark.specs.Canonical.{canonical}
 use Rattle.pws_mark.specs.Reading.{Means, IsCause}

@@ -1,5 +1,6 @@
 pub mod Bindings
 pub mod Canonical
+pub mod CharacterTable
 pub mod Documents
 pub mod Examples
 pub mod Faults

@@ -11,11 +11,18 @@
 
 pub mod errors;
 pub mod spaces;
+
 ghost use Rattle.pws_mark.specs.Examples.{WorkedTexts};
+ghost use Rattle.pws_mark.specs.CharacterTable.{CharactersAgree};
 
 /// The definitions agree with worked texts: one that is read and written again, and some that are refused.
 pub fn worked_texts()
     ensures { WorkedTexts }
+{}
+
+/// The sets of characters agree with a table of characters at the ends of their ranges.
+pub fn character_table()
+    ensures { CharactersAgree }
 {}
 
 #[cfg(test)]
