@@ -1,3 +1,5 @@
 pub mod Keys
 pub mod Walks
 pub mod Worked
+pub mod Escapes
+pub mod ReadBack

@@ -7,3 +7,4 @@ pub mod Faults
 pub mod Grammar
 pub mod Meaning
 pub mod Reading
+pub mod Texts

@@ -13,11 +13,17 @@ pub mod errors;
 pub mod spaces;
 
 ghost use Rattle.pws_mark.specs.Examples.{WorkedTexts};
+ghost use Rattle.pws_mark.specs.Texts.{TextsReadBack};
 ghost use Rattle.pws_mark.specs.CharacterTable.{CharactersAgree};
 
 /// The definitions agree with worked texts: one that is read and written again, and some that are refused.
 pub fn worked_texts()
     ensures { WorkedTexts }
+{}
+
+/// A text that is written canonically is in the grammar, and stands for itself.
+pub fn texts_read_back()
+    ensures { TextsReadBack }
 {}
 
 /// The sets of characters agree with a table of characters at the ends of their ranges.
