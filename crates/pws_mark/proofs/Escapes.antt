@@ -1,5 +1,5 @@
 -- The canonical text of a text is spelled by pieces, one for each character.
-use Rattle.std.proofs.Common.{◌≡◌, ℕ, suc, ◌<◌, ◌≤◌, Bool, true, false, cond, List, [], ◌∷◌, ◌++◌, map, length, get_or, refl, ap, sym, ◌∙◌, arith, append-nil, codes, inl, inr}
+use Rattle.std.proofs.Common.{◌≡◌, ℕ, suc, ◌<◌, ◌≤◌, Bool, true, false, List, [], ◌∷◌, ◌++◌, map, length, get_or, refl, ap, sym, ◌∙◌, arith, append-nil, codes, inl, inr}
 use Rattle.std.specs.Prelude.{◌==◌, ◌⊎◌, if◌then◌else◌}
 use Rattle.std.specs.List.{flat_map}
 use Rattle.std.proofs.Math.Dec.{leb}
@@ -21,7 +21,7 @@ text_piece c =
     else if c == 13 then Decimal (codes "13")
     else Char c
 
-other : (b n : ℕ) → 128 ≤ b → n < 128 → b ≡ n → ⊥
+pub other : (b n : ℕ) → 128 ≤ b → n < 128 → b ≡ n → ⊥
 other b n h g e = absurd (omega arith)
 
 plain : (b : ℕ) → 128 ≤ b → text_byte b ≡ b ∷ []
@@ -33,7 +33,7 @@ plain_all [] h = refl
 plain_all (b ∷ bs) h = ap (λ z. z ++ flat_map text_byte bs) (plain b (h 0 (omega arith))) ∙ ap (λ z. b ∷ z) (plain_all bs (λ i low. h (suc i) (omega arith)))
 
 -- all bytes of a character beyond ASCII are
-high : (c : ℕ) → 128 ≤ c → (i : ℕ) → i < length (encode c) → 128 ≤ get_or (encode c) i 0
+pub high : (c : ℕ) → 128 ≤ c → (i : ℕ) → i < length (encode c) → 128 ≤ get_or (encode c) i 0
 high c h i low = by (leb_tells 128 (get_or (encode c) i 0))
   where
     by : ((leb 128 (get_or (encode c) i 0) ≡ true) × (128 ≤ get_or (encode c) i 0)) ⊎ ((leb 128 (get_or (encode c) i 0) ≡ false) × (get_or (encode c) i 0 < 128)) → 128 ≤ get_or (encode c) i 0

@@ -3,3 +3,4 @@ pub mod Walks
 pub mod Worked
 pub mod Escapes
 pub mod ReadBack
+pub mod ValueReadBack

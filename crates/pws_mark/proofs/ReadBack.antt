@@ -1,20 +1,18 @@
 -- The content that a text is written as.
-use Rattle.std.proofs.Common.{◌≡◌, ℕ, suc, ◌+◌, ◌<◌, ◌≤◌, Bool, true, false, not, ◌&&◌, cond, List, [], ◌∷◌, ◌++◌, map, length, refl, ap, sym, ◌∙◌, arith, append-nil, codes, Option, Some, None, encode_utf8, encode_utf8_all}
-use Rattle.std.specs.Prelude.{◌==◌, if◌then◌else◌, IsTrue, nat_eq}
+use Rattle.std.proofs.Common.{◌≡◌, ℕ, ◌≤◌, Bool, true, false, not, ◌&&◌, cond, List, [], ◌∷◌, ◌++◌, map, length, refl, ap, sym, ◌∙◌, arith, append-nil, codes, Some}
+use Rattle.std.specs.Prelude.{◌==◌, if◌then◌else◌}
 use Rattle.std.specs.List.{flat_map, list_all}
 use Rattle.std.specs.Str.{IsUtf8, chars, is_utf8, bytes_eq}
 use Rattle.std.proofs.lemmas.Bool.{ne_eqb, eqb-true, eqb-false}
 use Rattle.std.proofs.lemmas.Str.{IsUtf8-from_is_utf8, encodes-chars, length-encode, len_utf8_bounds}
 use lib.Utf8.{encode, encodes}
 use Rattle.pws_tree.specs.Characters.{is_xml_char, is_xml_text, xml_ranges, name_start_ranges, name_more_ranges}
-use Rattle.pws_tree.specs.Lawful.{is_lawful_text}
 use Rattle.pws_tree.specs.Trees.{Nodes, NoNode, TextThen}
 use Rattle.pws_mark.specs.Bindings.{Bindings, piece_char, is_char, entity_char, number_of}
-use Rattle.pws_mark.specs.Canonical.{text_byte}
 use Rattle.pws_mark.specs.Documents.{Piece, Char, Entity, Decimal, Hexadecimal, Content, Nothing, Text, spell_piece, spell_content, section_end}
 use Rattle.pws_mark.specs.Grammar.{is_piece, is_text_char, is_name, is_content, begins_with}
-use Rattle.pws_mark.specs.Meaning.{nodes_in, with_text, char_text, joined}
-use Rattle.pws_mark.specs.Texts.{ReadsBack, TextsReadBack}
+use Rattle.pws_mark.specs.Meaning.{nodes_in, with_text, joined}
+use Rattle.pws_mark.specs.Texts.{TextsReadBack}
 use Rattle.pws_mark.proofs.Escapes.{text_piece, text_spelled}
 
 content_of : List ℕ → Content

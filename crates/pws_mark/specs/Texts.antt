@@ -1,12 +1,13 @@
--- A text that is written canonically stands for itself.
-use Rattle.std.specs.Prelude.{◌≡◌, ℕ, false, List, IsTrue}
-use Rattle.std.specs.List.{flat_map}
+-- A text or a value that is written canonically stands for itself.
+use Rattle.std.specs.Prelude.{◌≡◌, ℕ, false, List, IsTrue, Some}
+use Rattle.std.specs.List.{flat_map, list_all}
+use Rattle.pws_tree.specs.Characters.{is_xml_text}
 use Rattle.pws_tree.specs.Lawful.{is_lawful_text}
 use Rattle.pws_tree.specs.Trees.{NoNode, TextThen}
-use Rattle.pws_mark.specs.Bindings.{Bindings}
-use Rattle.pws_mark.specs.Canonical.{text_byte}
-use Rattle.pws_mark.specs.Documents.{Content, spell_content}
-use Rattle.pws_mark.specs.Grammar.{is_content}
+use Rattle.pws_mark.specs.Bindings.{Bindings, value_of}
+use Rattle.pws_mark.specs.Canonical.{text_byte, value_byte}
+use Rattle.pws_mark.specs.Documents.{Piece, Content, spell_piece, spell_content}
+use Rattle.pws_mark.specs.Grammar.{is_content, is_piece, is_value_char}
 use Rattle.pws_mark.specs.Meaning.{nodes_in}
 
 -- content of the grammar that is spelled as the text is written, and stands for the text
@@ -18,3 +19,13 @@ pub record ReadsBack (t : List ℕ) : Type 0 where
 
 abbrev pub TextsReadBack : Type 0
 TextsReadBack = (t : List ℕ) → IsTrue (is_lawful_text t) → ReadsBack t
+
+-- pieces that may stand between double quotes, are spelled as the value is written, and stand for the value
+pub record ValueReadsBack (v : List ℕ) : Type 0 where
+  pub pieces : List Piece
+  pub lawful : IsTrue (list_all (is_piece (is_value_char 34)) pieces)
+  pub spelled : flat_map spell_piece pieces ≡ flat_map value_byte v
+  pub stands : value_of pieces ≡ Some v
+
+abbrev pub ValuesReadBack : Type 0
+ValuesReadBack = (v : List ℕ) → IsTrue (is_xml_text v) → ValueReadsBack v

@@ -13,7 +13,7 @@ pub mod errors;
 pub mod spaces;
 
 ghost use Rattle.pws_mark.specs.Examples.{WorkedTexts};
-ghost use Rattle.pws_mark.specs.Texts.{TextsReadBack};
+ghost use Rattle.pws_mark.specs.Texts.{TextsReadBack, ValuesReadBack};
 ghost use Rattle.pws_mark.specs.CharacterTable.{CharactersAgree};
 
 /// The definitions agree with worked texts: one that is read and written again, and some that are refused.
@@ -24,6 +24,11 @@ pub fn worked_texts()
 /// A text that is written canonically is in the grammar, and stands for itself.
 pub fn texts_read_back()
     ensures { TextsReadBack }
+{}
+
+/// A value that is written canonically may stand between double quotes, and stands for itself.
+pub fn values_read_back()
+    ensures { ValuesReadBack }
 {}
 
 /// The sets of characters agree with a table of characters at the ends of their ranges.
