@@ -10,7 +10,8 @@ use Rattle.pws_tree.specs.Characters.{is_xml_char, is_xml_text, xml_ranges, name
 use Rattle.pws_tree.specs.Trees.{Nodes, NoNode, TextThen}
 use Rattle.pws_mark.specs.Bindings.{Bindings, piece_char, is_char, entity_char, number_of}
 use Rattle.pws_mark.specs.Documents.{Piece, Char, Entity, Decimal, Hexadecimal, Content, Nothing, Text, spell_piece, spell_content, section_end}
-use Rattle.pws_mark.specs.Grammar.{is_piece, is_text_char, is_name, is_content, begins_with}
+use Rattle.pws_mark.specs.Grammar.{is_content, begins_with}
+use Rattle.pws_mark.specs.Tokens.{is_piece, is_text_char, is_name}
 use Rattle.pws_mark.specs.Meaning.{nodes_in, with_text, joined}
 use Rattle.pws_mark.specs.Texts.{TextsReadBack}
 use Rattle.pws_mark.proofs.Escapes.{text_piece, text_spelled}
@@ -138,13 +139,12 @@ unfolding is_xml_text
 read_back t lawful =
     let some : not (bytes_eq t []) ≡ true = first (not (bytes_eq t [])) (is_utf8 t && list_all is_xml_char (chars t)) lawful in
     let text : (is_utf8 t && list_all is_xml_char (chars t)) ≡ true = second (not (bytes_eq t [])) (is_utf8 t && list_all is_xml_char (chars t)) lawful in
-    let u : IsUtf8 t = IsUtf8-from_is_utf8 t (first (is_utf8 t) (list_all is_xml_char (chars t)) text) in
-    record {
-      content = content_of (chars t);
-      lawful = lawful_of (chars t) (second (is_utf8 t) (list_all is_xml_char (chars t)) text);
-      spelled = spelled_of (chars t) ∙ sym (text_spelled t u);
-      stands = λ m. stands_of m (chars t) ∙ texts_are (chars t) t (encodes-chars t u) (turned (bytes_eq t []) some);
-    }
+    let u : IsUtf8 t = IsUtf8-from_is_utf8 t (first (is_utf8 t) (list_all is_xml_char (chars t)) text) in (
+      content_of (chars t),
+      lawful_of (chars t) (second (is_utf8 t) (list_all is_xml_char (chars t)) text),
+      spelled_of (chars t) ∙ sym (text_spelled t u),
+      λ m. stands_of m (chars t) ∙ texts_are (chars t) t (encodes-chars t u) (turned (bytes_eq t []) some),
+    )
   where
     first : (a b : Bool) → (a && b) ≡ true → a ≡ true
     first true b g = refl

@@ -13,7 +13,7 @@ use Rattle.pws_tree.specs.Characters.{is_xml_char, is_xml_text, xml_ranges, name
 use Rattle.pws_mark.specs.Bindings.{piece_char, is_char, value_of, entity_char, number_of}
 use Rattle.pws_mark.specs.Canonical.{value_byte}
 use Rattle.pws_mark.specs.Documents.{Piece, Char, Entity, Decimal, spell_piece}
-use Rattle.pws_mark.specs.Grammar.{is_piece, is_value_char, is_name}
+use Rattle.pws_mark.specs.Tokens.{is_piece, is_value_char, is_name}
 use Rattle.pws_mark.specs.Texts.{ValuesReadBack}
 use Rattle.pws_mark.proofs.Escapes.{other, high}
 
@@ -148,13 +148,12 @@ value_is (c ∷ cs) = rw (not_13 c, value_is cs, not_9 c, not_10 c, read_char c)
 pub values_read_back : ValuesReadBack
 unfolding is_xml_text
 values_read_back v lawful =
-    let u : IsUtf8 v = IsUtf8-from_is_utf8 v (first (is_utf8 v) (list_all is_xml_char (chars v)) lawful) in
-    record {
-      pieces = map value_piece (chars v);
-      lawful = lawful_all (chars v) (second (is_utf8 v) (list_all is_xml_char (chars v)) lawful);
-      spelled = sym (chars_spelled (chars v)) ∙ ap (flat_map value_byte) (encodes-chars v u);
-      stands = value_is (chars v) ∙ ap (λ z. Some z) (encodes-chars v u);
-    }
+    let u : IsUtf8 v = IsUtf8-from_is_utf8 v (first (is_utf8 v) (list_all is_xml_char (chars v)) lawful) in (
+      map value_piece (chars v),
+      lawful_all (chars v) (second (is_utf8 v) (list_all is_xml_char (chars v)) lawful),
+      sym (chars_spelled (chars v)) ∙ ap (flat_map value_byte) (encodes-chars v u),
+      value_is (chars v) ∙ ap (λ z. Some z) (encodes-chars v u),
+    )
   where
     first : (a b : Bool) → (a && b) ≡ true → a ≡ true
     first true b g = refl

@@ -7,13 +7,13 @@ use Rattle.pws_tree.specs.Characters.{xml_ranges, name_start_ranges, name_more_r
 use Rattle.pws_tree.specs.Names.{xmlns_space, xmlns_word, envelope_space, value_word}
 use Rattle.pws_mark.specs.Canonical.{xml_space, xml_word, text_byte, value_byte, declaration_word}
 use Rattle.pws_mark.specs.Documents.{Document, Char, Entity, Decimal, Hexadecimal, Nothing, Text, Section, Comment, Hollow, Element, spell, section_start, section_end, comment_start, comment_end}
-use Rattle.pws_mark.specs.Grammar.{is_name}
+use Rattle.pws_mark.specs.Tokens.{is_name}
 use Rattle.pws_mark.specs.Bindings.{xmlns_word as xmlns_bytes, entity_char, number_of, bound_by, outermost}
 use Rattle.pws_mark.specs.Meaning.{meaning, attrs_of, name_of, with_text, qualified_in}
 use Rattle.pws_mark.specs.declared.errors.MarkKind.TheVariants as kind
 use Rattle.std.specs.Prelude.{codes}
 use Rattle.std.proofs.Common.{arith, inl, lit≤, lit<}
-use Rattle.pws_mark.specs.Reading.{HasFault, HasDoctype, HasInstruction}
+use Rattle.pws_mark.specs.Causes.{HasFault, HasDoctype, HasInstruction}
 use Rattle.pws_mark.specs.Examples.{WorkedTexts, IsWrittenAs, toolkit_text, toolkit_written}
 
 toolkit_document : Document

@@ -1,12 +1,15 @@
--- What references, values and names stand for: XML 1.0 fifth edition, sections 2.11, 3.3.3, 4.1 and 4.6, and Namespaces
--- in XML 1.0, sections 3 to 6. Characters are code points; namespaces, local names and values are bytes, in UTF-8.
-use Rattle.std.specs.Prelude.{ℕ, ◌+◌, ◌-◌, ◌*◌, Bool, false, not, ◌&&◌, ◌||◌, ◌==◌, nat_le, if◌then◌else◌, List, [], ◌∷◌, ◌++◌, length, drop, filter, fold, find, take_while, option_map, Option, Some, None, unwrap_or, is_none, codes, encode_utf8, encode_utf8_all}
+-- What references, values and names stand for, and which declarations and attributes can't stand: XML 1.0 fifth edition,
+-- sections 2.11, 3.3.3, 4.1 and 4.6, and Namespaces in XML 1.0, sections 3 to 6. Characters are code points; namespaces,
+-- local names and values are bytes, in UTF-8.
+use Rattle.std.specs.Prelude.{ℕ, ◌+◌, ◌*◌, Bool, true, false, not, ◌&&◌, ◌||◌, ◌==◌, if◌then◌else◌, List, [], ◌∷◌, ◌++◌, length, drop, filter, fold, find, take_while, option_map, Option, Some, None, unwrap_or, is_none, codes, encode_utf8, encode_utf8_all}
 use Rattle.std.specs.List.{list_any, filter_map}
 use Rattle.std.specs.Str.{bytes_eq}
 use Rattle.pws_tree.specs.Characters.{is_xml_char}
+use Rattle.pws_tree.specs.Names.{xmlns_space}
 use Rattle.pws_tree.specs.declared.texts.Name.{Name}
 use Rattle.pws_mark.specs.Canonical.{xml_space, xml_word}
 use Rattle.pws_mark.specs.Documents.{Piece, Char, Entity, Decimal, Hexadecimal, Attribute, Tag}
+use Rattle.pws_mark.specs.Digits.{digit_number}
 
 unfoldable pub xmlns_word : List ℕ
 xmlns_word = codes "xmlns"
@@ -20,10 +23,6 @@ entity_char name =
     else if bytes_eq name (codes "apos") then Some 39
     else if bytes_eq name (codes "quot") then Some 34
     else None
-
--- what a digit stands for, in the bases 10 and 16
-abbrev pub digit_number : ℕ → ℕ
-digit_number c = if nat_le c 57 then c - 48 else if nat_le c 70 then c - 55 else c - 87
 
 unfoldable pub number_of : ℕ → List ℕ → ℕ
 number_of base digits = fold (λ n c. n * base + digit_number c) 0 digits
@@ -47,18 +46,17 @@ abbrev pub first_is : ℕ → List Piece → Bool
 first_is c [] = false
 first_is c (p ∷ ps) = is_char c p
 
--- section 3.3.3: a tab or a line end as it stands becomes a space; CR LF is one line end (2.11)
-abbrev pub value_char : Piece → Option ℕ
-value_char p = if is_char 9 p || (is_char 10 p || is_char 13 p) then Some 32 else piece_char p
-
 abbrev pub put_before : Option ℕ → Option (List ℕ) → Option (List ℕ)
 put_before (Some c) (Some bytes) = Some (encode_utf8 c ++ bytes)
 put_before _ _ = None
 
--- the value of an attribute; nothing where a reference in it is refused
+-- The value of an attribute: a tab or a line end as it stands becomes a space (section 3.3.3), and CR LF is one line
+-- end (2.11). Nothing where a reference in it is refused.
 abbrev pub value_of : List Piece → Option (List ℕ)
 value_of [] = Some []
-value_of (p ∷ ps) = if is_char 13 p && first_is 10 ps then value_of ps else put_before (value_char p) (value_of ps)
+value_of (p ∷ ps) =
+    if is_char 13 p && first_is 10 ps then value_of ps
+    else put_before (if is_char 9 p || (is_char 10 p || is_char 13 p) then Some 32 else piece_char p) (value_of ps)
 
 -- A name as written is a local part, or a prefix, a colon and a local part; without a colon the prefix is empty.
 abbrev pub has_colon : List ℕ → Bool
@@ -91,11 +89,8 @@ abbrev pub declared : Attribute → Option (List ℕ × Option (List ℕ))
 declared a = option_map (λ prefix. (prefix, value_of a.value)) (declared_prefix a)
 
 -- the prefixes xml and xmlns can't be bound
-abbrev pub is_free : List ℕ × Option (List ℕ) → Bool
-is_free b = not (bytes_eq b.0 xml_word) && not (bytes_eq b.0 xmlns_word)
-
 unfoldable pub bound_by : Tag → Bindings → Bindings
-bound_by tag m = filter is_free (filter_map declared tag.attributes) ++ m
+bound_by tag m = filter (λ b. not (bytes_eq b.0 xml_word) && not (bytes_eq b.0 xmlns_word)) (filter_map declared tag.attributes) ++ m
 
 unfoldable pub outermost : Bindings
 outermost = (xml_word, Some xml_space) ∷ []
@@ -107,17 +102,39 @@ space_at m prefix = option_map (λ b. b.1) (find (λ b. bytes_eq b.0 prefix) m)
 abbrev pub is_bound : Bindings → List ℕ → Bool
 is_bound m prefix = bytes_eq prefix [] || not (is_none (space_at m prefix))
 
--- a name without a prefix is in the default namespace, or in none
-abbrev pub known_space : Bindings → List ℕ → Option (List ℕ)
-known_space m prefix = unwrap_or (space_at m prefix) (if bytes_eq prefix [] then Some [] else None)
-
 abbrev pub named : List ℕ → List ℕ → Name
 named local space = record { space = space; local = encode_utf8_all local }
 
--- the name of an element, or of a qualified name
+-- the name of an element, or of a qualified name, which without a prefix is in the default namespace, or in none
 abbrev pub element_name : Bindings → List ℕ → Option Name
-element_name m name = option_map (named (written_local name)) (known_space m (written_prefix name))
+element_name m name =
+    let prefix = written_prefix name in
+    option_map (named (written_local name)) (unwrap_or (space_at m prefix) (if bytes_eq prefix [] then Some [] else None))
 
 -- the name of an attribute, which without a prefix is in no namespace
 abbrev pub attribute_name : Bindings → List ℕ → Option Name
 attribute_name m name = if has_colon name then element_name m name else Some (named name [])
+
+abbrev pub same_name : Option Name → Option Name → Bool
+same_name (Some n) (Some o) = bytes_eq n.space o.space && bytes_eq n.local o.local
+same_name _ _ = false
+
+-- the name of an attribute as bound; a declaration has none
+abbrev pub bound_name : Bindings → Attribute → Option Name
+bound_name m a = if is_none (declared_prefix a) then attribute_name m a.name else None
+
+-- one name as written or as bound (Namespaces in XML 1.0, section 6.3); two declarations of one prefix have one name as
+-- written
+abbrev pub are_twice : Bindings → Attribute → Attribute → Bool
+are_twice m a b = bytes_eq a.name b.name || same_name (bound_name m a) (bound_name m b)
+
+abbrev pub is_space : Option (List ℕ) → List ℕ → Bool
+is_space None space = false
+is_space (Some s) space = bytes_eq s space
+
+-- which declarations are refused (Namespaces in XML 1.0, section 3; a prefix can't be undeclared)
+abbrev pub is_wrong_declaration : List ℕ → Option (List ℕ) → Bool
+is_wrong_declaration prefix space =
+    if bytes_eq prefix xmlns_word then true
+    else if bytes_eq prefix xml_word then not (is_space space xml_space)
+    else is_space space xml_space || (is_space space xmlns_space || (not (bytes_eq prefix []) && is_space space []))

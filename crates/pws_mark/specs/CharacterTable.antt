@@ -3,7 +3,7 @@
 use Rattle.std.specs.Prelude.{◌≡◌, ℕ, Bool, true, false, not, ◌&&◌, if◌then◌else◌, List, [], ◌∷◌}
 use Rattle.std.specs.List.{list_all}
 use Rattle.pws_tree.specs.Characters.{is_name_start, is_name_char}
-use Rattle.pws_mark.specs.Grammar.{is_text_char}
+use Rattle.pws_mark.specs.Tokens.{is_text_char}
 
 unfoldable pub character_table : List (ℕ × Bool × Bool × Bool)
 character_table =
@@ -85,9 +85,8 @@ character_table =
 abbrev pub is_same : Bool → Bool → Bool
 is_same a b = if a then b else not b
 
--- whether the sets of characters answer as a line of the table does
-abbrev pub agrees : ℕ × Bool × Bool × Bool → Bool
-agrees line = is_same line.1 (is_name_start line.0) && (is_same line.2 (is_name_char line.0) && is_same line.3 (is_text_char line.0))
-
+-- the sets of characters answer as each line of the table does
 abbrev pub CharactersAgree : Type 0
-CharactersAgree = list_all agrees character_table ≡ true
+CharactersAgree =
+    list_all (λ line. is_same line.1 (is_name_start line.0) && (is_same line.2 (is_name_char line.0) && is_same line.3 (is_text_char line.0))) character_table
+    ≡ true

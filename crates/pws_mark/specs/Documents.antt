@@ -105,13 +105,13 @@ spell_declaration None = []
 spell_declaration (Some d) =
     codes "<?xml" ++ (spell_pseudo (codes "version") d.version ++ (spell_optional (codes "encoding") d.encoding ++ (spell_optional (codes "standalone") d.standalone ++ (encode_utf8_all d.gap ++ codes "?>"))))
 
--- a byte order mark is U+FEFF in UTF-8
-abbrev pub spell_mark : Bool → List ℕ
-spell_mark mark = if mark then 0xEF ∷ 0xBB ∷ 0xBF ∷ [] else []
+-- U+FEFF in UTF-8
+abbrev pub byte_order_mark : List ℕ
+byte_order_mark = 0xEF ∷ 0xBB ∷ 0xBF ∷ []
 
 -- what stands before the prolog's comments and white space, and before the element
 abbrev pub spell_head : Document → List ℕ
-spell_head d = spell_mark d.mark ++ spell_declaration d.declaration
+spell_head d = (if d.mark then byte_order_mark else []) ++ spell_declaration d.declaration
 
 abbrev pub spell_prolog : Document → List ℕ
 spell_prolog d = spell_head d ++ spell_content d.before

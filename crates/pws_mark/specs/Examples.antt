@@ -2,7 +2,8 @@
 use Rattle.std.specs.Prelude.{◌≡◌, ℕ, List, ◌∷◌, ◌++◌, codes}
 use Rattle.pws_tree.specs.Trees.{Tree}
 use Rattle.pws_mark.specs.Canonical.{canonical}
-use Rattle.pws_mark.specs.Reading.{Means, IsCause}
+use Rattle.pws_mark.specs.Reading.{Means}
+use Rattle.pws_mark.specs.Causes.{IsCause}
 use Rattle.pws_mark.specs.declared.errors.MarkKind.TheVariants as kind
 
 -- a text stands for a tree that is written so

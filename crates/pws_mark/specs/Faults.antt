@@ -1,14 +1,13 @@
 -- What is refused in a document of the grammar: what it is, where it stands, and where what shows it is complete.
 -- Which places are told is this project's own rule.
-use Rattle.std.specs.Prelude.{ℕ, ◌+◌, Bool, true, false, not, ◌&&◌, ◌||◌, nat_le, if◌then◌else◌, List, [], ◌∷◌, ◌++◌, length, Option, Some, None, is_none, encode_utf8, encode_utf8_all}
+use Rattle.std.specs.Prelude.{ℕ, ◌+◌, Bool, false, not, ◌||◌, nat_le, if◌then◌else◌, List, [], ◌∷◌, ◌++◌, length, Option, Some, None, is_none, encode_utf8, encode_utf8_all}
 use Rattle.std.specs.List.{list_any}
-use Rattle.std.specs.Str.{bytes_eq}
-use Rattle.pws_tree.specs.Names.{is_value, xmlns_space}
+use Rattle.pws_tree.specs.Names.{is_value}
 use Rattle.pws_tree.specs.declared.texts.Name.{Name}
-use Rattle.pws_mark.specs.Canonical.{xml_space, xml_word}
 use Rattle.pws_mark.specs.Documents.{Piece, Attribute, Tag, Content, Nothing, Text, Section, Comment, Hollow, Element, Document, spell_piece, spell_attribute, spell_tag, spell_content, spell_prolog, section_start, section_end, comment_start, comment_end}
-use Rattle.pws_mark.specs.Bindings.{Bindings, piece_char, value_of, written_prefix, has_two_colons, declared_prefix, bound_by, outermost, is_bound, element_name, attribute_name, xmlns_word}
-use Rattle.pws_mark.specs.Meaning.{Marked, letters, name_within}
+use Rattle.pws_mark.specs.Bindings.{Bindings, piece_char, value_of, written_prefix, has_two_colons, declared_prefix, bound_by, outermost, is_bound, element_name, are_twice, is_wrong_declaration}
+use Rattle.pws_mark.specs.Values.{Marked, letters}
+use Rattle.pws_mark.specs.Meaning.{name_within}
 use Rattle.pws_mark.specs.declared.errors.MarkKind.{MarkKind}
 use Rattle.pws_mark.specs.declared.errors.MarkKind.TheVariants as kind
 
@@ -28,24 +27,6 @@ abbrev pub value_faults : ℕ → List Piece → List Fault
 value_faults at [] = []
 value_faults at (p ∷ ps) = piece_faults at p ++ value_faults (at + length (spell_piece p)) ps
 
--- the place of an attribute's name, and of its value
-abbrev pub name_place : ℕ → Attribute → ℕ
-name_place at a = at + length (encode_utf8_all a.gap)
-
-abbrev pub value_place : ℕ → Attribute → ℕ
-value_place at a = name_place at a + (length (encode_utf8_all a.name) + (length (encode_utf8_all a.before) + (length (encode_utf8_all a.after) + 2)))
-
-abbrev pub is_space : Option (List ℕ) → List ℕ → Bool
-is_space None space = false
-is_space (Some s) space = bytes_eq s space
-
--- which declarations are refused (Namespaces in XML 1.0, section 3; a prefix can't be undeclared)
-abbrev pub is_wrong_declaration : List ℕ → Option (List ℕ) → Bool
-is_wrong_declaration prefix space =
-    if bytes_eq prefix xmlns_word then true
-    else if bytes_eq prefix xml_word then not (is_space space xml_space)
-    else is_space space xml_space || (is_space space xmlns_space || (not (bytes_eq prefix []) && is_space space []))
-
 abbrev pub is_wrong_name : Bindings → List ℕ → Bool
 is_wrong_name m name = has_two_colons name || not (is_bound m (written_prefix name))
 
@@ -53,25 +34,15 @@ abbrev pub is_wrong_attribute : Bindings → Attribute → Option (List ℕ) →
 is_wrong_attribute m a None = is_wrong_name m a.name
 is_wrong_attribute m a (Some prefix) = has_two_colons a.name || is_wrong_declaration prefix (value_of a.value)
 
-abbrev pub same_name : Option Name → Option Name → Bool
-same_name (Some n) (Some o) = bytes_eq n.space o.space && bytes_eq n.local o.local
-same_name _ _ = false
-
--- the name of an attribute as bound; a declaration has none
-abbrev pub bound_name : Bindings → Attribute → Option Name
-bound_name m a = if is_none (declared_prefix a) then attribute_name m a.name else None
-
--- one name as written or as bound; two declarations of one prefix have one name as written
-abbrev pub are_twice : Bindings → Attribute → Attribute → Bool
-are_twice m a b = bytes_eq a.name b.name || same_name (bound_name m a) (bound_name m b)
-
 -- the faults of attributes: those of values at once, and the others once the tag is complete
 abbrev pub attributes_faults : Bindings → ℕ → ℕ → List Attribute → List Attribute → List Fault
 attributes_faults m end at seen [] = []
 attributes_faults m end at seen (a ∷ more) =
-    if_wrong (is_wrong_attribute m a (declared_prefix a)) kind.Prefix (name_place at a) end
-    ++ (if_wrong (list_any (are_twice m a) seen) kind.Twice (name_place at a) end
-    ++ (value_faults (value_place at a) a.value
+    let name_at = at + length (encode_utf8_all a.gap) in
+    let value_at = name_at + (length (encode_utf8_all a.name) + (length (encode_utf8_all a.before) + (length (encode_utf8_all a.after) + 2))) in
+    if_wrong (is_wrong_attribute m a (declared_prefix a)) kind.Prefix name_at end
+    ++ (if_wrong (list_any (are_twice m a) seen) kind.Twice name_at end
+    ++ (value_faults value_at a.value
     ++ attributes_faults m end (at + length (spell_attribute a)) (a ∷ seen) more))
 
 -- a start tag of the 65th level, known by the first character of its name

@@ -1,71 +1,13 @@
 -- Which documents are in the grammar: XML 1.0 fifth edition without document types and processing instructions, where
--- prefixes, entities, attribute names and the content of Value are free. Production 5, Name, is taken as names
--- without colons that are joined by colons.
-use Rattle.std.specs.Prelude.{◌≡◌, ℕ, suc, ◌<◌, ◌≤◌, Bool, true, false, not, ◌&&◌, ◌||◌, ◌==◌, nat_le, if◌then◌else◌, List, [], ◌∷◌, ◌++◌, length, take, Option, Some, None, IsTrue, codes, nat_eq}
-use Rattle.std.specs.List.{list_all, starts_with}
+-- prefixes, entities, attribute names and the content of Value are free.
+use Rattle.std.specs.Prelude.{ℕ, Bool, true, false, not, ◌&&◌, ◌||◌, ◌==◌, List, [], ◌∷◌, Option, Some, None, codes}
+use Rattle.std.specs.List.{list_all}
 use Rattle.std.specs.Str.{bytes_eq, str_to_ascii_lowercase}
-use Rattle.pws_tree.specs.Characters.{is_xml_char, is_name_start, is_name_char}
-use Rattle.pws_mark.specs.Documents.{Piece, Char, Entity, Decimal, Hexadecimal, Attribute, Tag, Content, Nothing, Text, Section, Comment, Hollow, Element, Pseudo, Declaration, Document, section_end, spell}
-
--- production 3, S
-abbrev pub is_white : ℕ → Bool
-is_white c = c == 32 || (c == 9 || (c == 10 || c == 13))
-
-abbrev pub is_gap : List ℕ → Bool
-is_gap chars = not (bytes_eq chars []) && list_all is_white chars
-
--- a name goes on, where its next character has to start a part or not
-abbrev pub goes_on : Bool → List ℕ → Bool
-goes_on starts [] = not starts
-goes_on true (c ∷ cs) = is_name_start c && goes_on false cs
-goes_on false (c ∷ cs) = if c == 58 then goes_on true cs else is_name_char c && goes_on false cs
-
-unfoldable pub is_name : List ℕ → Bool
-is_name chars = goes_on true chars
-
-abbrev pub is_digit : ℕ → Bool
-is_digit c = nat_le 48 c && nat_le c 57
-
-abbrev pub is_hexadecimal : ℕ → Bool
-is_hexadecimal c = is_digit c || ((nat_le 65 c && nat_le c 70) || (nat_le 97 c && nat_le c 102))
-
--- a character of this set, or a reference
-abbrev pub is_piece : (ℕ → Bool) → Piece → Bool
-is_piece allowed (Char c) = allowed c
-is_piece allowed (Entity name) = is_name name
-is_piece allowed (Decimal digits) = not (bytes_eq digits []) && list_all is_digit digits
-is_piece allowed (Hexadecimal digits) = not (bytes_eq digits []) && list_all is_hexadecimal digits
-
--- production 14, CharData, character by character
-abbrev pub is_text_char : ℕ → Bool
-is_text_char c = is_xml_char c && (not (c == 60) && not (c == 38))
-
--- production 10, AttValue, between these quotes
-abbrev pub is_value_char : ℕ → ℕ → Bool
-is_value_char quote c = is_text_char c && not (c == quote)
-
-abbrev pub is_quote : ℕ → Bool
-is_quote c = c == 34 || c == 39
-
-abbrev pub is_attribute : Attribute → Bool
-is_attribute a =
-    is_gap a.gap && (is_name a.name && (list_all is_white a.before && (list_all is_white a.after && (is_quote a.quote && list_all (is_piece (is_value_char a.quote)) a.value))))
+use Rattle.pws_mark.specs.Documents.{Char, Tag, Content, Nothing, Text, Section, Comment, Hollow, Element, Pseudo, Declaration, Document, section_end}
+use Rattle.pws_mark.specs.Tokens.{is_white, is_gap, is_name, is_piece, is_text_char, is_quote, is_attribute, is_section, is_comment}
 
 abbrev pub is_tag : Tag → Bool
 is_tag tag = is_name tag.name && (list_all is_attribute tag.attributes && list_all is_white tag.gap)
-
--- whether a list of characters has these side by side
-abbrev pub has_within : List ℕ → List ℕ → Bool
-has_within chars [] = false
-has_within chars (c ∷ cs) = starts_with nat_eq (c ∷ cs) chars || has_within chars cs
-
--- production 20, CData
-abbrev pub is_section : List ℕ → Bool
-is_section chars = list_all is_xml_char chars && not (has_within section_end chars)
-
--- production 15: no two hyphens stand side by side, the first of the end's among them
-abbrev pub is_comment : List ℕ → Bool
-is_comment chars = list_all is_xml_char chars && not (has_within (45 ∷ 45 ∷ []) (chars ++ 45 ∷ []))
 
 -- whether content begins with these characters as they stand
 abbrev pub begins_with : List ℕ → Content → Bool
@@ -117,24 +59,3 @@ is_declaration (Some d) =
 
 abbrev pub is_document : Document → Bool
 is_document d = is_declaration d.declaration && (is_misc d.before && ((is_root d.root && is_content d.root) && is_misc d.after))
-
--- the document is in the grammar, and these bytes spell it
-pub record Spells (d : Document) (bytes : List ℕ) : Type 0 where
-  pub lawful : IsTrue (is_document d)
-  pub spelled : spell d ≡ bytes
-
-abbrev pub IsText : List ℕ → Type 0
-IsText bytes = (d : Document) × Spells d bytes
-
--- the document is spelled by these bytes and then others
-abbrev pub Completes : Document → List ℕ → Type 0
-Completes d front = (rest : List ℕ) × Spells d (front ++ rest)
-
-abbrev pub IsViable : List ℕ → Type 0
-IsViable front = (d : Document) × Completes d front
-
--- the longest prefix of these bytes that is a prefix of some text of the grammar has so many bytes
-pub record IsLongest (bytes : List ℕ) (n : ℕ) : Type 0 where
-  pub within : n ≤ length bytes
-  pub viable : IsViable (take n bytes)
-  pub next : n < length bytes → ¬ (IsViable (take (suc n) bytes))

@@ -1,6 +1,6 @@
 -- The tree that a document stands for.
-use Rattle.std.specs.Prelude.{ℕ, ◌+◌, Bool, true, false, not, ◌&&◌, ◌==◌, if◌then◌else◌, List, [], ◌∷◌, ◌++◌, length, map, take_while, drop, option_map, Option, Some, None, unwrap_or, is_none, encode_utf8, encode_utf8_all}
-use Rattle.std.specs.List.{list_all, filter_map}
+use Rattle.std.specs.Prelude.{ℕ, Bool, true, false, ◌&&◌, ◌==◌, if◌then◌else◌, List, [], ◌∷◌, ◌++◌, Option, Some, None, unwrap_or, is_none, encode_utf8, encode_utf8_all}
+use Rattle.std.specs.List.{filter_map}
 use Rattle.std.specs.Option.{option_and_then}
 use Rattle.std.specs.Str.{bytes_eq}
 use Rattle.std.specs.Ordering.{is_lt}
@@ -8,9 +8,9 @@ use Rattle.pws_tree.specs.Names.{name_cmp, is_value}
 use Rattle.pws_tree.specs.Trees.{Tree, Nodes, NoNode, TextThen, QualifiedThen, ElementThen}
 use Rattle.pws_tree.specs.declared.texts.Name.{Name}
 use Rattle.pws_tree.specs.declared.texts.Attr.{Attr}
-use Rattle.pws_mark.specs.Documents.{Tag, Attribute, Content, Nothing, Text, Section, Comment, Hollow, Element, Document, spell_piece, section_start, section_end, comment_start, comment_end}
-use Rattle.pws_mark.specs.Grammar.{is_white, is_name}
-use Rattle.pws_mark.specs.Bindings.{Bindings, piece_char, is_char, value_of, declared_prefix, bound_by, outermost, element_name, attribute_name, has_two_colons}
+use Rattle.pws_mark.specs.Documents.{Tag, Attribute, Content, Nothing, Text, Section, Comment, Hollow, Element, Document}
+use Rattle.pws_mark.specs.Bindings.{Bindings, piece_char, is_char, value_of, declared_prefix, bound_by, outermost, element_name, attribute_name}
+use Rattle.pws_mark.specs.Values.{Marked, marked, first_word, letters, is_one_name}
 
 abbrev pub no_name : Name
 no_name = record { space = []; local = [] }
@@ -60,45 +60,7 @@ abbrev pub char_text : Option ℕ → List ℕ
 char_text None = []
 char_text (Some c) = encode_utf8 c
 
--- The content of Value, character by character, each with the place of its first byte.
-abbrev pub Marked : Type 0
-Marked = List (ℕ × ℕ)
-
-abbrev pub placed : ℕ → List ℕ → Marked
-placed at [] = []
-placed at (c ∷ cs) = (c, at) ∷ placed (at + length (encode_utf8 c)) cs
-
-abbrev pub then_marked : Option ℕ → ℕ → Option Marked → Option Marked
-then_marked (Some c) at (Some more) = Some ((c, at) ∷ more)
-then_marked _ at _ = None
-
--- nothing where an element or a refused reference is among it
-abbrev pub marked : ℕ → Content → Option Marked
-marked at Nothing = Some []
-marked at (Text piece rest) = then_marked (piece_char piece) at (marked (at + length (spell_piece piece)) rest)
-marked at (Section chars rest) =
-    option_map (λ more. placed (at + length section_start) chars ++ more)
-    (marked (at + length (section_start ++ (encode_utf8_all chars ++ section_end))) rest)
-marked at (Comment chars rest) = marked (at + length (comment_start ++ (encode_utf8_all chars ++ comment_end))) rest
-marked at (Hollow tag rest) = None
-marked at (Element tag inner gap rest) = None
-
-abbrev pub behind_white : Marked → Marked
-behind_white [] = []
-behind_white (c ∷ cs) = if is_white c.0 then behind_white cs else c ∷ cs
-
-abbrev pub first_word : Marked → Marked
-first_word chars = take_while (λ c. not (is_white c.0)) (behind_white chars)
-
-abbrev pub letters : Marked → List ℕ
-letters chars = map (λ c. c.0) chars
-
--- one qualified name, white space round it aside (Namespaces in XML 1.0, production 7)
-abbrev pub is_one_name : Marked → Bool
-is_one_name chars =
-    is_name (letters (first_word chars)) && (not (has_two_colons (letters (first_word chars)))
-    && list_all (λ c. is_white c.0) (drop (length (first_word chars)) (behind_white chars)))
-
+-- the name that is the content of a Value, with its place, where it is one name
 abbrev pub name_within : ℕ → Content → Option Marked
 name_within at content = option_and_then (λ chars. if is_one_name chars then Some (first_word chars) else None) (marked at content)
 

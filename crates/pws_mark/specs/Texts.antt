@@ -7,25 +7,19 @@ use Rattle.pws_tree.specs.Trees.{NoNode, TextThen}
 use Rattle.pws_mark.specs.Bindings.{Bindings, value_of}
 use Rattle.pws_mark.specs.Canonical.{text_byte, value_byte}
 use Rattle.pws_mark.specs.Documents.{Piece, Content, spell_piece, spell_content}
-use Rattle.pws_mark.specs.Grammar.{is_content, is_piece, is_value_char}
+use Rattle.pws_mark.specs.Grammar.{is_content}
+use Rattle.pws_mark.specs.Tokens.{is_piece, is_value_char}
 use Rattle.pws_mark.specs.Meaning.{nodes_in}
 
--- content of the grammar that is spelled as the text is written, and stands for the text
-pub record ReadsBack (t : List ℕ) : Type 0 where
-  pub content : Content
-  pub lawful : IsTrue (is_content content)
-  pub spelled : spell_content content ≡ flat_map text_byte t
-  pub stands : (m : Bindings) → nodes_in m false content ≡ TextThen t NoNode
-
+-- for each text there is content of the grammar that is spelled as the text is written, and stands for the text
 abbrev pub TextsReadBack : Type 0
-TextsReadBack = (t : List ℕ) → IsTrue (is_lawful_text t) → ReadsBack t
+TextsReadBack =
+    (t : List ℕ) → IsTrue (is_lawful_text t) →
+    (content : Content) × IsTrue (is_content content) × (spell_content content ≡ flat_map text_byte t) × ((m : Bindings) → nodes_in m false content ≡ TextThen t NoNode)
 
--- pieces that may stand between double quotes, are spelled as the value is written, and stand for the value
-pub record ValueReadsBack (v : List ℕ) : Type 0 where
-  pub pieces : List Piece
-  pub lawful : IsTrue (list_all (is_piece (is_value_char 34)) pieces)
-  pub spelled : flat_map spell_piece pieces ≡ flat_map value_byte v
-  pub stands : value_of pieces ≡ Some v
-
+-- for each value there are pieces that may stand between double quotes, are spelled as the value is written, and stand
+-- for the value
 abbrev pub ValuesReadBack : Type 0
-ValuesReadBack = (v : List ℕ) → IsTrue (is_xml_text v) → ValueReadsBack v
+ValuesReadBack =
+    (v : List ℕ) → IsTrue (is_xml_text v) →
+    (pieces : List Piece) × IsTrue (list_all (is_piece (is_value_char 34)) pieces) × (flat_map spell_piece pieces ≡ flat_map value_byte v) × (value_of pieces ≡ Some v)

@@ -4,13 +4,20 @@
 //! - `spaces` lists the namespaces that a tree uses, in order of first use.
 //! - `writing` writes the canonical text of a tree.
 //!
-//! The definitions of what a text stands for, and of each refusal, are in specs/: `Documents` and `Grammar` have the
-//! documents and their spelling, `Bindings` and `Meaning` the tree that a document stands for, `Faults` what is refused
-//! in one, `Reading` what reading answers, and `Canonical` the text that is written.
+//! Reading isn't built yet: `errors` has what it will answer, and only its definitions are here, in specs/. There
+//! `Documents` has the documents and their spelling, `Digits`, `Tokens`, `Grammar` and `Beginnings` tell which are in the
+//! grammar, `Bindings`, `Values` and `Meaning` give the tree that a document stands for, `Faults` what is refused in one,
+//! `Places` and `Causes` what refuses a text, `Reading` what reading has to answer, and `Canonical` the text that is
+//! written.
+//!
+//! Nothing stands on this layer yet; the layer of envelopes will.
 #![tactic(auto)]
 
 pub mod errors;
 pub mod spaces;
+#[cfg(test)]
+mod tests;
+pub mod writing;
 
 ghost use Rattle.pws_mark.specs.Examples.{WorkedTexts};
 ghost use Rattle.pws_mark.specs.Texts.{TextsReadBack, ValuesReadBack};
@@ -35,7 +42,3 @@ pub fn values_read_back()
 pub fn character_table()
     ensures { CharactersAgree }
 {}
-
-#[cfg(test)]
-mod tests;
-pub mod writing;

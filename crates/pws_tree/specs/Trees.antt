@@ -75,15 +75,10 @@ abbrev pub coded_attr : Coded Attr
 coded_attr =
     code_by (Name × List ℕ) (coded× coded_name coded_text) (λ a. (a.name, a.value)) (λ p. record { name = p.0; value = p.1 }) (λ _. refl)
 
-abbrev pub coded_mark : Coded Mark
-coded_mark = coded_option (coded⊎ coded_text (coded⊎ coded_name (coded× coded_name (coded_list coded_attr))))
-
-abbrev pub coded_nodes : Coded Nodes
-coded_nodes =
-    code_by (List Mark) (coded_list coded_mark) marks (λ ms. top (read_marks ms))
-    (λ x. ap (λ z. top (read_marks z)) (sym (append-nil (marks x))) ∙ ap top (read_back x [] [] refl))
-
 abbrev pub coded_tree : Coded Tree
 coded_tree =
+    let coded_mark : Coded Mark = coded_option (coded⊎ coded_text (coded⊎ coded_name (coded× coded_name (coded_list coded_attr)))) in
+    let read_again : (x : Nodes) → top (read_marks (marks x)) ≡ x = λ x. ap (λ z. top (read_marks z)) (sym (append-nil (marks x))) ∙ ap top (read_back x [] [] refl) in
+    let coded_nodes : Coded Nodes = code_by (List Mark) (coded_list coded_mark) marks (λ ms. top (read_marks ms)) read_again in
     code_by (Name × (List Attr × Nodes)) (coded× coded_name (coded× (coded_list coded_attr) coded_nodes)) (λ t. (t.name, (t.attrs, t.children)))
     (λ p. record { name = p.0; attrs = p.1.0; children = p.1.1 }) (λ _. refl)

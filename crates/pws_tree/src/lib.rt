@@ -9,6 +9,8 @@
 //! The one contract that all above rely on: an element is lawful. Contracts see it as a `Tree`, whose attributes
 //! stand in the order of their names, since the order of attributes means nothing in XML; so two elements are the
 //! same exactly where contracts see one value.
+//!
+//! On this layer stands `pws_mark`, the text of elements.
 #![tactic(auto)]
 
 pub mod characters;
