@@ -1,0 +1,6 @@
+pub mod Keys
+pub mod Walks
+pub mod Worked
+pub mod Escapes
+pub mod ReadBack
+pub mod ValueReadBack

@@ -1,0 +1,16 @@
+pub mod Beginnings
+pub mod Bindings
+pub mod Canonical
+pub mod Causes
+pub mod CharacterTable
+pub mod Digits
+pub mod Documents
+pub mod Examples
+pub mod Faults
+pub mod Grammar
+pub mod Meaning
+pub mod Places
+pub mod Reading
+pub mod Texts
+pub mod Tokens
+pub mod Values

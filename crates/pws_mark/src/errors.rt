@@ -1,0 +1,45 @@
+//! Why a text isn't read.
+
+use pws_base::memory::Memory;
+use std::alloc::{AllocError, AllocFailed};
+use thiserror::Error;
+
+/// What is refused in a text.
+#[derive(Clone, Copy, Debug, PartialEq, Eq)]
+pub enum MarkKind {
+    /// More than 32,768 bytes.
+    Size,
+    /// No UTF-8.
+    Utf8,
+    /// A document type.
+    Doctype,
+    /// A processing instruction.
+    Instruction,
+    /// A start tag of the 65th level.
+    Depth,
+    /// A prefix that isn't bound, or a declaration that binds what can't be.
+    Prefix,
+    /// Two attributes of one name, or two declarations of one prefix.
+    Twice,
+    /// A reference to another entity, or to a number that is no XML character.
+    Entity,
+    /// Anything else that isn't accepted.
+    Syntax,
+}
+
+/// What is refused, and the place of its first byte.
+#[derive(Clone, Copy, Debug, PartialEq, Eq, Error)]
+#[error("the text of an element is refused at {at}")]
+pub struct MarkError {
+    pub kind: MarkKind,
+    pub at: usize,
+}
+
+/// Why an element isn't read.
+#[derive(Clone, Copy, Debug, PartialEq, Eq, Error)]
+pub enum ReadError {
+    #[error("{0}")]
+    Mark(MarkError),
+    #[error("out of memory")]
+    Memory,
+}

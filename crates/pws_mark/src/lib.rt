@@ -1,0 +1,44 @@
+//! The text of elements.
+//!
+//! - `errors` tells what is refused in a text, and where.
+//! - `spaces` lists the namespaces that a tree uses, in order of first use.
+//! - `writing` writes the canonical text of a tree.
+//!
+//! Reading isn't built yet: `errors` has what it will answer, and only its definitions are here, in specs/. There
+//! `Documents` has the documents and their spelling, `Digits`, `Tokens`, `Grammar` and `Beginnings` tell which are in the
+//! grammar, `Bindings`, `Values` and `Meaning` give the tree that a document stands for, `Faults` what is refused in one,
+//! `Places` and `Causes` what refuses a text, `Reading` what reading has to answer, and `Canonical` the text that is
+//! written.
+//!
+//! Nothing stands on this layer yet; the layer of envelopes will.
+#![tactic(auto)]
+
+pub mod errors;
+pub mod spaces;
+#[cfg(test)]
+mod tests;
+pub mod writing;
+
+ghost use Rattle.pws_mark.specs.Examples.{WorkedTexts};
+ghost use Rattle.pws_mark.specs.Texts.{TextsReadBack, ValuesReadBack};
+ghost use Rattle.pws_mark.specs.CharacterTable.{CharactersAgree};
+
+/// The definitions agree with worked texts: one that is read and written again, and some that are refused.
+pub fn worked_texts()
+    ensures { WorkedTexts }
+{}
+
+/// A text that is written canonically is in the grammar, and stands for itself.
+pub fn texts_read_back()
+    ensures { TextsReadBack }
+{}
+
+/// A value that is written canonically may stand between double quotes, and stands for itself.
+pub fn values_read_back()
+    ensures { ValuesReadBack }
+{}
+
+/// The sets of characters agree with a table of characters at the ends of their ranges.
+pub fn character_table()
+    ensures { CharactersAgree }
+{}

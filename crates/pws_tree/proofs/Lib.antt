@@ -1,0 +1,6 @@
+pub mod Attributes
+pub mod Children
+pub mod Levels
+pub mod Passing
+pub mod Same
+pub mod Joined
