@@ -10,7 +10,8 @@
 //! `Places` and `Causes` what refuses a text, `Reading` what reading has to answer, and `Canonical` the text that is
 //! written.
 //!
-//! Nothing stands on this layer yet; the layer of envelopes will.
+//! The one contract so far: `write_element` gives the canonical text, `canonical`, of the tree. Nothing stands on this
+//! layer yet; the layer of envelopes will.
 #![tactic(auto)]
 
 pub mod errors;
