@@ -24,7 +24,8 @@ ghost use Rattle.pws_mark.specs.Examples.{WorkedTexts};
 ghost use Rattle.pws_mark.specs.Texts.{TextsReadBack, ValuesReadBack};
 ghost use Rattle.pws_mark.specs.CharacterTable.{CharactersAgree};
 
-/// The definitions agree with worked texts: one that is read and written again, and some that are refused.
+/// The definitions agree with worked texts: some that stand for a tree, with the text that it is written as, and some
+/// with a cause of refusal and its place.
 pub fn worked_texts()
     ensures { WorkedTexts }
 {}

@@ -243,8 +243,6 @@ fn put_child(
 
 /// The canonical text of an element, in UTF-8.
 ///
-/// Two elements have one canonical text exactly where they are the same tree.
-///
 /// # Errors
 ///
 /// `Memory` only.
