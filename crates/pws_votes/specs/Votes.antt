@@ -58,10 +58,14 @@ is_in_window low place = nat_lt low place && nat_le place (low + 32)
 abbrev pub has_vote : Book → Key → Bool
 has_vote book k = is_some (get book.votes k)
 
+-- whether a book may have a vote: the voter is a replica of the group, and the place is in the window
+abbrev pub can_vote : Book → Key → Bool
+can_vote book k = nat_lt k.voter (size_of_group book.f) && is_in_window book.low k.place
+
 -- how a vote is answered
 abbrev pub answer_to : Book → Key → Vote
 answer_to book k =
-    if nat_lt k.voter (size_of_group book.f) && is_in_window book.low k.place
+    if can_vote book k
     then (if has_vote book k then Already else Kept)
     else Outside
 

@@ -1,8 +1,8 @@
 //! Books of votes.
 
-ghost use Rattle.std.specs.Prelude.{◌≡◌, ◌≤◌, IfOk, OnOk, OnErr};
+ghost use Rattle.std.specs.Prelude.{◌≡◌, ◌≤◌, IsTrue, IfOk, OnOk, OnErr};
 ghost use Rattle.std.specs.FinMap.{len};
-ghost use Rattle.pws_votes.specs.Votes.{Book, key, new_book, answer_to, after_vote, has_vote, without_view, raised_to, matching_of};
+ghost use Rattle.pws_votes.specs.Votes.{Book, key, new_book, answer_to, after_vote, has_vote, can_vote, without_view, raised_to, matching_of};
 
 use crate::kinds::{Vote, VoteKind};
 use pws_base::lists::ExactCopy;
@@ -46,9 +46,11 @@ pub trait VoteBook: ExactCopy {
         ensures ok { OnOk result (book self.new ≡ after_vote (book self.old) (key kind place voter) digest.now) }
         ensures err { OnErr result (book self.new ≡ book self.old) };
 
-    /// Whether a voter has a vote of this kind at this place.
+    /// Whether a voter has a vote of this kind at this place; then it is a replica of the group, and the place is in the
+    /// window.
     fn has(&self, kind: VoteKind, place: Place, voter: u8) -> bool
-        ensures { result ≡ has_vote (book self.now) (key kind place voter) };
+        ensures value { result ≡ has_vote (book self.now) (key kind place voter) }
+        ensures inside { IsTrue result → IsTrue (can_vote (book self.now) (key kind place voter)) };
 
     /// How many voters have a vote of this kind at this place for this digest.
     fn matching(&self, kind: VoteKind, place: Place, digest: &Digest) -> u8

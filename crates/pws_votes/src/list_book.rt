@@ -1,9 +1,9 @@
 //! A book of votes that is a plain list.
 
-ghost use Rattle.std.specs.Prelude.{◌≡◌, ℕ, find, filter, nat_lt, is_some};
+ghost use Rattle.std.specs.Prelude.{◌≡◌, ℕ, find, filter, nat_lt, is_some, IsTrue};
 ghost use Rattle.std.specs.Option.{option_copied, option_map};
 ghost use Rattle.std.specs.FinMap.{get};
-ghost use Rattle.pws_votes.specs.Votes.{key, is_checkpoint, is_vote_for};
+ghost use Rattle.pws_votes.specs.Votes.{key, can_vote, is_checkpoint, is_vote_for};
 ghost use Rattle.pws_votes.specs.ListBooks.{key_of, is_same_kind, is_same_key};
 
 use crate::books::VoteBook;
@@ -109,7 +109,8 @@ fn digest_at(entries: &[Entry], kind: VoteKind, place: Place, voter: u8) -> Opti
 impl ListBook {
     /// The digest that a voter voted for.
     fn said(&self, kind: VoteKind, place: Place, voter: u8) -> Option<Digest>
-        ensures { result ≡ get self.now.votes (key kind place voter) }
+        ensures value { result ≡ get self.now.votes (key kind place voter) }
+        ensures inside { IsTrue (is_some result) → IsTrue (can_vote self.now (key kind place voter)) }
     {
         digest_at(&self.entries, kind, place, voter)
     }

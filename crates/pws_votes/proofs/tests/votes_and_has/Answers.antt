@@ -21,5 +21,5 @@ has_after_vote b k d h w =
 pub returns : goal.returns
 returns g c =
     let k = key c.args.kind c.args.place c.args.voter in
-    c.has.ensures
+    c.has.ensures.value
     ∙ (ap (λ b. has_vote b k) c.in_ok-_answer.ensures.ok ∙ has_after_vote (g.B.VoteBook.book c.args.book.now) k c.args.digest.now c.requires.replica c.requires.window)
