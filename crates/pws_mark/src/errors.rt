@@ -1,7 +1,5 @@
 //! Why a text isn't read.
 
-use pws_base::memory::Memory;
-use std::alloc::{AllocError, AllocFailed};
 use thiserror::Error;
 
 /// What is refused in a text.
@@ -9,7 +7,7 @@ use thiserror::Error;
 pub enum MarkKind {
     /// More than 32,768 bytes.
     Size,
-    /// No UTF-8.
+    /// Bytes that aren't UTF-8.
     Utf8,
     /// A document type.
     Doctype,

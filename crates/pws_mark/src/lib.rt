@@ -15,7 +15,7 @@
 #![tactic(auto)]
 
 pub mod errors;
-pub mod spaces;
+mod spaces;
 #[cfg(test)]
 mod tests;
 pub mod writing;
