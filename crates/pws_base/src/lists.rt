@@ -103,3 +103,9 @@ impl<T: ExactCopy> ExactCopy for Sequence<T> {
         Ok(Sequence { items })
     }
 }
+
+impl ExactCopy for [u8; 32] {
+    fn copy(&self, _alloc: Global) -> Result<[u8; 32], Memory> {
+        Ok(*self)
+    }
+}

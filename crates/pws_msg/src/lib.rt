@@ -1,0 +1,7 @@
+//! What replicas say to one another.
+//!
+//! - `changes` has the records of a view change: what a replica reports of earlier views, what a new view keeps of
+//!   them, and the message that starts it.
+#![tactic(auto)]
+
+pub mod changes;
