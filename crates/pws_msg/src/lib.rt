@@ -5,3 +5,4 @@
 #![tactic(auto)]
 
 pub mod changes;
+pub mod frames;

@@ -1,0 +1,4 @@
+pub mod Begun
+pub mod Deframing
+pub mod Feeds
+pub mod Frames
