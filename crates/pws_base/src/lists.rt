@@ -103,3 +103,21 @@ impl<T: ExactCopy> ExactCopy for Sequence<T> {
         Ok(Sequence { items })
     }
 }
+
+impl ExactCopy for [u8; 32] {
+    fn copy(&self, _alloc: Global) -> Result<[u8; 32], Memory> {
+        Ok(*self)
+    }
+}
+
+impl ExactCopy for u32 {
+    fn copy(&self, _alloc: Global) -> Result<u32, Memory> {
+        Ok(*self)
+    }
+}
+
+impl<A: Copy + Drop, B: Copy + Drop> ExactCopy for (A, B) {
+    fn copy(&self, _alloc: Global) -> Result<(A, B), Memory> {
+        Ok(*self)
+    }
+}
