@@ -9,7 +9,8 @@ use Rattle.pws_event.specs.Requests.{RequestFields, IsRequest}
 use Rattle.pws_event.specs.declared.events.Event.{Event}
 use Rattle.pws_event.specs.declared.events.Event.TheVariants as event
 use Rattle.pws_event.specs.Effects.{field_after, latest, last_of, low_of, is_next, takes_effect, with_event, effects}
-use Rattle.pws_event.specs.Counters.{Counters, IsCounters, HasTaken, would_take, after_request}
+use Rattle.pws_event.specs.Events.{IsEvent}
+use Rattle.pws_event.specs.Counters.{Counters, IsCounters, HasTaken, would_take, after_request, after_event}
 
 pub latest_after : (field : RequestFields → ℕ) (caller first : ℕ) (fx : List Event) (r : RequestFields) → latest field caller first (fx ++ event.Request r ∷ []) ≡ cond (nat_eq r.caller caller) (field r) (latest field caller first fx)
 latest_after field caller first fx r = fold-append (field_after field caller) first fx (event.Request r ∷ [])
@@ -31,9 +32,9 @@ outside_by field caller first fx r true h =
     latest_after field caller first fx r ∙ ap (λ b. cond b (field r) (latest field caller first fx)) other
 
 outside_step : (field : RequestFields → ℕ) (caller first me : ℕ) (layout : List ℕ) (fx : List Event) (e : Event) → length layout ≤ caller → latest field caller first (with_event me layout fx e) ≡ latest field caller first fx
-outside_step field caller first me layout fx event.Null h = refl
 outside_step field caller first me layout fx (event.Request r) h =
     outside_by field caller first fx r (takes_effect me layout fx (event.Request r)) (λ t. omega (arith, next_caller me layout (last_of r.caller fx) (low_of r.caller fx) r t))
+outside_step field caller first me layout fx _ h = refl
 
 outside_fold : (field : RequestFields → ℕ) (caller first me : ℕ) (layout : List ℕ) (fx events : List Event) → length layout ≤ caller → latest field caller first (fold (with_event me layout) fx events) ≡ latest field caller first fx
 outside_fold field caller first me layout fx [] h = refl
@@ -83,9 +84,19 @@ after_by c events r true s h k e =
 pub taken_more : (c : Counters) (events : List Event) (r : RequestFields) → IsCounters c → IsRequest r → HasTaken c events → HasTaken (after_request c r) (events ++ event.Request r ∷ [])
 taken_more c events r s l h = after_by c events r (would_take c r) s h l.caller refl
 
--- Null changes nothing
-pub null_more : (c : Counters) (events : List Event) → HasTaken c events → HasTaken c (events ++ event.Null ∷ [])
-null_more c events h = record {
-  last = λ caller k. h.last caller k ∙ ap (last_of caller) (sym (effects_after c.me c.layout events event.Null));
-  low = λ caller k. h.low caller k ∙ ap (low_of caller) (sym (effects_after c.me c.layout events event.Null));
-}
+-- an event of another kind changes nothing
+other_more : (c : Counters) (events : List Event) (e : Event) → takes_effect c.me c.layout (effects c.me c.layout events) e ≡ false → HasTaken c events → HasTaken c (events ++ e ∷ [])
+other_more c events e v h =
+    let same : effects c.me c.layout (events ++ e ∷ []) ≡ effects c.me c.layout events = effects_after c.me c.layout events e ∙ ap (λ b. cond b (effects c.me c.layout events ++ e ∷ []) (effects c.me c.layout events)) v in
+    record {
+      last = λ caller k. h.last caller k ∙ ap (last_of caller) (sym same);
+      low = λ caller k. h.low caller k ∙ ap (low_of caller) (sym same);
+    }
+
+pub event_more : (c : Counters) (events : List Event) (e : Event) → IsCounters c → IsEvent e → HasTaken c events → HasTaken (after_event c e) (events ++ e ∷ [])
+event_more c events (event.Request r) s l h = taken_more c events r s l h
+event_more c events event.Null s l h = other_more c events event.Null refl h
+event_more c events (event.Reply r) s l h = other_more c events (event.Reply r) refl h
+event_more c events (event.Abort r) s l h = other_more c events (event.Abort r) refl h
+event_more c events (event.Clock r) s l h = other_more c events (event.Clock r) refl h
+event_more c events (event.Random r) s l h = other_more c events (event.Random r) refl h

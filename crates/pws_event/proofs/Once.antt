@@ -28,8 +28,8 @@ rises_by caller fx r true h = rw (last_after caller fx r) (same_or_next caller f
 rises_by caller fx r false h = omega arith
 
 rises_step : (me : ℕ) (layout : List ℕ) (caller : ℕ) (fx : List Event) (e : Event) → last_of caller fx ≤ last_of caller (with_event me layout fx e)
-rises_step me layout caller fx event.Null = omega arith
 rises_step me layout caller fx (event.Request r) = rises_by caller fx r (takes_effect me layout fx (event.Request r)) (next_number me layout (last_of r.caller fx) (low_of r.caller fx) r)
+rises_step me layout caller fx _ = omega arith
 
 rises_fold : (me : ℕ) (layout : List ℕ) (caller : ℕ) (events fx : List Event) → last_of caller fx ≤ last_of caller (fold (with_event me layout) fx events)
 rises_fold me layout caller [] fx = omega arith

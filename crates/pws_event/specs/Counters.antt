@@ -36,8 +36,8 @@ after_request c r =
 
 -- the counters after an event
 abbrev pub after_event : Counters → Event → Counters
-after_event c event.Null = c
 after_event c (event.Request r) = after_request c r
+after_event c _ = c
 
 -- a caller's counter, or what it is for a caller that no layout has
 abbrev pub counter_of : List ℕ → ℕ → ℕ → ℕ

@@ -7,8 +7,8 @@ use Rattle.pws_event.specs.declared.events.Event.TheVariants as event
 
 -- a field of the caller's last request after one more event
 abbrev pub field_after : (RequestFields → ℕ) → ℕ → ℕ → Event → ℕ
-field_after field caller value event.Null = value
 field_after field caller value (event.Request r) = if r.caller == caller then field r else value
+field_after field caller value _ = value
 
 -- a field of the caller's last request among these effects, or what it is before the first
 abbrev pub latest : (RequestFields → ℕ) → ℕ → ℕ → List Event → ℕ
@@ -36,8 +36,8 @@ is_next me layout last low r =
 
 -- whether an event takes effect after these effects; Null never does
 abbrev pub takes_effect : ℕ → List ℕ → List Event → Event → Bool
-takes_effect me layout before event.Null = false
 takes_effect me layout before (event.Request r) = is_next me layout (last_of r.caller before) (low_of r.caller before) r
+takes_effect me layout before _ = false
 
 -- the effects after one more event
 abbrev pub with_event : ℕ → List ℕ → List Event → Event → List Event

@@ -118,7 +118,7 @@ impl Effect {
 
     /// Takes the next event of the group's list: `Taken` exactly where it takes effect, and else `Void`, which leaves
     /// the counters.
-    #[tactic(auto, using(crate::proofs::Latest::taken_more, crate::proofs::Latest::null_more))]
+    #[tactic(auto, using(crate::proofs::Latest::taken_more, crate::proofs::Latest::event_more))]
     pub fn take(&mut self, event: &Event) -> Taken
         ensures taken { (events : List Event) → HasTaken self.old events → HasTaken self.new (events ++ event.now ∷ []) }
         ensures answer { (events : List Event) → HasTaken self.old events → result ≡ (if takes_effect self.old.me self.old.layout (effects self.old.me self.old.layout events) event.now then Taken.Taken else Taken.Void) }
@@ -127,8 +127,9 @@ impl Effect {
         ensures layout { self.new.layout ≡ self.old.layout }
     {
         match event {
-            Event::Null => Taken::Void,
             Event::Request(request) => self.take_request(request),
+            Event::Null | Event::Reply(_) | Event::Abort(_) | Event::Clock(_) | Event::Random(_) =>
+                Taken::Void,
         }
     }
 
