@@ -1,14 +1,16 @@
 -- The stream of frames as its bytes come.
-use Rattle.std.proofs.Common.{◌≡◌, ◌⊎◌, inl, inr, ℕ, zero, suc, ◌+◌, ◌-◌, ◌<◌, ◌≤◌, ◌^◌, List, [], ◌∷◌, ◌++◌, length, take, drop, replicate, refl, sym, ◌∙◌, ap, subst, arith, length-append, append_assoc, All}
-use Rattle.std.proofs.lemmas.List.{length-replicate, append-nil, length-take-le, length-drop, take-append-drop}
+use Rattle.std.proofs.Common.{◌≡◌, ◌⊎◌, inl, inr, ℕ, zero, suc, ◌+◌, ◌-◌, ◌<◌, ◌≤◌, ◌^◌, List, [], ◌∷◌, ◌++◌, length, take, drop, replicate, refl, sym, ◌∙◌, ap, subst, arith, length-append, append_assoc, All, false, Option, None, Some}
+use Rattle.std.proofs.lemmas.List.{length-replicate, append-nil, length-take-le, length-drop, take-append-drop, take_rest}
 use Rattle.std.proofs.Math.Seq.{take-add}
 use Rattle.std.proofs.lemmas.List.Elements.{All-append, All-nil, All-push}
 use Rattle.std.proofs.lemmas.Grind.{common_steps, flat_map-append}
 use Rattle.pws_base.specs.Texts.{u32_text, sized_text}
 use Rattle.pws_msg.specs.Frames.{IsFramed, frame_text, frames_text, BeginsFrame, IsRest, IsStream, IsBadSize, BreaksWith, IsBroken}
 use Rattle.pws_msg.specs.Begun.{IsBegun}
-use Rattle.pws_msg.specs.Feeds.{StepsTo}
-use Rattle.pws_msg.specs.declared.frames.Step.TheVariants as Step
+use Rattle.pws_msg.specs.Feeds.{StepsTo, CutsAt}
+use Rattle.pws_msg.specs.Deframing.{Deframing, HasRead, IsRead}
+use Rattle.pws_msg.specs.declared.frames.Step.{Step}
+use Rattle.pws_msg.specs.declared.frames.Step.TheVariants as step
 
 pub length-u32_text : (n : ℕ) → length (u32_text n) ≡ 4
 unfolding u32_text
@@ -113,22 +115,45 @@ pub taken_more : (before piece : List ℕ) (at count : ℕ) → (before ++ take 
 taken_more before piece at count = append_assoc before (take at piece) (take count (drop at piece)) ∙ ap (λ xs. before ++ xs) (sym (take-add at count piece))
 
 -- one step more of a piece
-pub step_more : (before piece rest : List ℕ) (packets : List (List ℕ)) (at count : ℕ) (new : List ℕ) → IsStream (before ++ take at piece) packets rest → StepsTo Step.More (rest ++ take count (drop at piece)) new → IsStream (before ++ take (at + count) piece) packets new
+pub step_more : (before piece rest : List ℕ) (packets : List (List ℕ)) (at count : ℕ) (new : List ℕ) → IsStream (before ++ take at piece) packets rest → StepsTo step.More (rest ++ take count (drop at piece)) new → IsStream (before ++ take (at + count) piece) packets new
 step_more before piece rest packets at count new h k =
     let whole : IsStream ((before ++ take at piece) ++ take count (drop at piece)) packets (rest ++ take count (drop at piece)) = stream_more (before ++ take at piece) packets rest (take count (drop at piece)) h k.1 in
     let P : List ℕ → List ℕ → Type 0 = λ xs r. IsStream xs packets r in
     subst (λ (xs : List ℕ). P xs new) (taken_more before piece at count) (subst (λ (r : List ℕ). P ((before ++ take at piece) ++ take count (drop at piece)) r) (sym k.0) whole)
 
-pub step_whole : (before piece rest : List ℕ) (packets : List (List ℕ)) (at count : ℕ) (packet new : List ℕ) → IsStream (before ++ take at piece) packets rest → StepsTo (Step.Whole packet) (rest ++ take count (drop at piece)) new → IsStream (before ++ take (at + count) piece) (packets ++ packet ∷ []) new
+pub step_whole : (before piece rest : List ℕ) (packets : List (List ℕ)) (at count : ℕ) (packet new : List ℕ) → IsStream (before ++ take at piece) packets rest → StepsTo (step.Whole packet) (rest ++ take count (drop at piece)) new → IsStream (before ++ take (at + count) piece) (packets ++ packet ∷ []) new
 step_whole before piece rest packets at count packet new h k =
     let whole : IsStream ((before ++ take at piece) ++ take count (drop at piece)) (packets ++ packet ∷ []) [] = stream_whole (before ++ take at piece) packets rest (take count (drop at piece)) packet h k.0 k.1 in
     let P : List ℕ → List ℕ → Type 0 = λ xs r. IsStream xs (packets ++ packet ∷ []) r in
     subst (λ (xs : List ℕ). P xs new) (taken_more before piece at count) (subst (λ (r : List ℕ). P ((before ++ take at piece) ++ take count (drop at piece)) r) (sym k.2) whole)
 
-pub step_bad : (before piece rest : List ℕ) (packets : List (List ℕ)) (at count : ℕ) (new : List ℕ) → IsStream (before ++ take at piece) packets rest → at + count ≤ length piece → StepsTo Step.Bad (rest ++ take count (drop at piece)) new → IsBroken (before ++ piece) packets (length before + (at + count) - 4)
+pub step_bad : (before piece rest : List ℕ) (packets : List (List ℕ)) (at count : ℕ) (new : List ℕ) → IsStream (before ++ take at piece) packets rest → at + count ≤ length piece → StepsTo step.Bad (rest ++ take count (drop at piece)) new → (at + count ≤ length piece) × (4 ≤ length before + (at + count)) × IsBroken (before ++ piece) packets (length before + (at + count) - 4)
 step_bad before piece rest packets at count new h fits (size, b, e) =
     let here : IsBroken ((before ++ take at piece) ++ take count (drop at piece)) packets (length (before ++ take at piece) + length (take count (drop at piece)) - 4) = stream_bad (before ++ take at piece) packets rest (take count (drop at piece)) size h b e in
     let n : length (before ++ take at piece) + length (take count (drop at piece)) ≡ length before + (at + count) = omega (arith, length-append before (take at piece), length-take-le at piece (omega arith), length-take-le count (drop at piece) (omega (arith, length-drop at piece))) in
     let on : IsBroken (((before ++ take at piece) ++ take count (drop at piece)) ++ drop (at + count) piece) packets (length (before ++ take at piece) + length (take count (drop at piece)) - 4) = broken_stays _ (drop (at + count) piece) packets _ here in
     let whole : ((before ++ take at piece) ++ take count (drop at piece)) ++ drop (at + count) piece ≡ before ++ piece = ap (λ xs. xs ++ drop (at + count) piece) (taken_more before piece at count) ∙ (append_assoc before (take (at + count) piece) (drop (at + count) piece) ∙ ap (λ xs. before ++ xs) (take-append-drop (at + count) piece)) in
-    rw (whole, n) at on
+    let four : 4 ≤ length before + (at + count) = omega (arith, n, ap length h.text, ap length e, length-u32_text size, length-append (frames_text packets) rest, length-append rest (take count (drop at piece))) in
+    (fits, four, rw (whole, n) at on)
+
+-- a piece after all bytes fed before, which leaves no whole frame
+pub fed_whole : (d : Deframing) (bytes : List ℕ) (packets : List (List ℕ)) (piece : List ℕ) (whole : List (List ℕ)) (rest : List ℕ) → HasRead d bytes packets → d.broken ≡ None → IsStream (d.rest ++ piece) whole rest → HasRead (record { rest = rest; fed = d.fed + length piece; broken = d.broken; stopped = false }) (bytes ++ piece) (packets ++ whole)
+fed_whole d bytes packets piece whole rest h none k =
+    let s : IsStream bytes packets d.rest = subst (λ (o : Option ℕ). IsRead o d.rest bytes packets) none h.read in
+    record {
+      fed = omega (arith, h.fed, length-append bytes piece);
+      read = subst (λ (o : Option ℕ). IsRead o rest (bytes ++ piece) (packets ++ whole)) (sym none) (stream_on bytes packets d.rest piece whole rest s k);
+    }
+
+-- a piece in which a length ends that no frame has
+pub fed_broken : (d : Deframing) (bytes : List ℕ) (packets : List (List ℕ)) (piece : List ℕ) (whole : List (List ℕ)) (rest : List ℕ) (end at : ℕ) → HasRead d bytes packets → d.broken ≡ None → CutsAt (Some end) d.rest piece whole rest → at ≡ d.fed + end - 4 → HasRead (record { rest = rest; fed = d.fed + length piece; broken = Some at; stopped = false }) (bytes ++ piece) (packets ++ whole)
+fed_broken d bytes packets piece whole rest end at h none (fits, four, broken) e =
+    let s : IsStream bytes packets d.rest = subst (λ (o : Option ℕ). IsRead o d.rest bytes packets) none h.read in
+    let b : IsBroken (bytes ++ piece) (packets ++ whole) (length bytes - length d.rest + (length d.rest + end - 4)) = broken_on bytes packets d.rest piece whole (length d.rest + end - 4) s broken in
+    let short : length d.rest ≤ length bytes = omega (arith, ap length s.text, length-append (frames_text packets) d.rest) in
+    let n : length bytes - length d.rest + (length d.rest + end - 4) ≡ at = omega (arith, short, h.fed, four, e) in
+    record { fed = omega (arith, h.fed, length-append bytes piece); read = rw n at b }
+
+-- the bytes of a piece from a place on
+pub steps_rest : (s : Step) (rest piece : List ℕ) (at count : ℕ) (new : List ℕ) → StepsTo s (rest ++ take count (take (length piece - at) (drop at piece))) new → StepsTo s (rest ++ take count (drop at piece)) new
+steps_rest s rest piece at count new h = subst (λ (xs : List ℕ). StepsTo s (rest ++ take count xs) new) (take_rest piece at) h

@@ -25,4 +25,4 @@ StepsTo step.Bad joined rest = (size : ℕ) × IsBadSize size × (joined ≡ u32
 -- what a piece gave after a rest: the stream of both, or a bad length that ends at this byte of the piece
 abbrev pub CutsAt : Option ℕ → List ℕ → List ℕ → List (List ℕ) → List ℕ → Type 0
 CutsAt None before piece whole rest = IsStream (before ++ piece) whole rest
-CutsAt (Some end) before piece whole rest = (end ≤ length piece) × IsBroken (before ++ piece) whole (length before + end - 4)
+CutsAt (Some end) before piece whole rest = (end ≤ length piece) × (4 ≤ length before + end) × IsBroken (before ++ piece) whole (length before + end - 4)

@@ -2,3 +2,4 @@ pub mod Begun
 pub mod Deframing
 pub mod Feeds
 pub mod Frames
+pub mod Laws

@@ -320,9 +320,12 @@ impl Deframer {
         if self.stopped {
             return Err(FeedError::Memory);
         }
-        if let Some(at) = self.broken {
-            let whole = Sequence::new(alloc);
-            return Err(FeedError::Frame(FrameError { at, whole }));
+        match self.broken {
+            None => {}
+            Some(at) => {
+                let whole = Sequence::new(alloc);
+                return Err(FeedError::Frame(FrameError { at, whole }));
+            }
         }
         self.stopped = true;
         let cut = self.rest.cut(alloc, piece)?;
