@@ -3,3 +3,5 @@ pub mod Deframing
 pub mod Feeds
 pub mod Frames
 pub mod Laws
+pub mod RowFields
+pub mod Rows

@@ -7,3 +7,4 @@
 pub mod changes;
 pub mod frames;
 pub mod laws;
+pub mod rows;
