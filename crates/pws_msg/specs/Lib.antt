@@ -5,3 +5,6 @@ pub mod Frames
 pub mod Laws
 pub mod RowFields
 pub mod Rows
+pub mod StatementFields
+pub mod StatementTexts
+pub mod Statements

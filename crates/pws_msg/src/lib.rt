@@ -7,4 +7,7 @@
 pub mod changes;
 pub mod frames;
 pub mod laws;
+pub mod places;
+pub mod readings;
+pub mod requests;
 pub mod rows;
