@@ -3,6 +3,7 @@ pub mod Deframing
 pub mod Feeds
 pub mod Frames
 pub mod Laws
+pub mod Reported
 pub mod RowFields
 pub mod Rows
 pub mod StatementFields
