@@ -1,4 +1,6 @@
 pub mod Begun
+pub mod ContentFields
+pub mod Contents
 pub mod Deframing
 pub mod Feeds
 pub mod Frames

@@ -5,6 +5,7 @@
 #![tactic(auto)]
 
 pub mod changes;
+pub mod contents;
 pub mod frames;
 pub mod laws;
 pub mod places;

@@ -12,7 +12,7 @@ use std::alloc::Global;
 use std::marker::Model;
 
 /// The fields of an event are in range, by its type.
-fn is_lawful(event: &Event)
+pub fn event_is_lawful(event: &Event)
     ensures { IsEvent event.now }
 {
     match event {
@@ -61,7 +61,7 @@ impl Proposal {
         requires place_to { place ≤ 1000000 }
         ensures { result ≡ record { view = view; place = place; event = event } }
     {
-        is_lawful(&event);
+        event_is_lawful(&event);
         Proposal { view, place, event }
     }
 
@@ -347,7 +347,7 @@ impl DecidedEvent {
         requires place_to { place ≤ 1000000 }
         ensures { result ≡ record { place = place; event = event } }
     {
-        is_lawful(&event);
+        event_is_lawful(&event);
         DecidedEvent { place, event }
     }
 

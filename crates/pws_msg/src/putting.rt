@@ -22,7 +22,7 @@ pub fn put_sized(text: &mut Writer, bytes: &[u8]) -> Result<(), Memory>
     text.put_bytes(bytes)
 }
 
-fn put_event(alloc: Global, text: &mut Writer, event: &Event) -> Result<(), Memory>
+pub fn put_event(alloc: Global, text: &mut Writer, event: &Event) -> Result<(), Memory>
     ensures { OnOk result (text.new ≡ text.old ++ event_text event.now) }
 {
     let bytes = write_event(alloc, event)?;
