@@ -5,6 +5,9 @@ pub mod Deframing
 pub mod Feeds
 pub mod Frames
 pub mod Laws
+pub mod PacketFaults
+pub mod PacketFields
+pub mod Packets
 pub mod Reported
 pub mod RowFields
 pub mod Rows

@@ -5,10 +5,15 @@
 #![tactic(auto)]
 
 pub mod changes;
+mod content_reading;
 pub mod contents;
+pub mod errors;
+mod event_reading;
 pub mod frames;
 pub mod laws;
 pub mod places;
+mod packet_reading;
+pub mod packets;
 mod putting;
 mod taking;
 pub mod readings;

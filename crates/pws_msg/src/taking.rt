@@ -3,11 +3,12 @@
 ghost use Rattle.pws_base.specs.Fields.{Gives, GivesOrMemory};
 ghost use Rattle.pws_msg.specs.StatementFields.{reading_value_at, time_at, share_at, own_request_at, reply_note_at, call_name_at, own_reading_at, proposal_at, place_vote_at, place_digest_at, change_name_at, wanted_place_at, decided_event_at};
 
-use crate::places::{ChangeName, PlaceDigest, PlaceVote, WantedPlace};
+use crate::places::{ChangeName, DecidedEvent, PlaceDigest, PlaceVote, Proposal, WantedPlace};
 use crate::readings::ReadingValue;
 use crate::requests::{CallName, OwnReading, OwnRequest, ReplyNote};
 use pws_base::bytes::Bytes;
 use pws_base::fields::{FieldError, FieldFault, FieldReader};
+use crate::event_reading::take_event;
 use std::alloc::Global;
 
 #[tactic(auto, unfolding(crate::specs::StatementFields::time_at))]
@@ -77,6 +78,16 @@ pub fn take_own_reading(fields: &mut FieldReader<'_>) -> Result<OwnReading, Fiel
     Ok(OwnReading::new(ask, value))
 }
 
+#[tactic(auto, unfolding(crate::specs::StatementFields::proposal_at), using(crate::proofs::Ranges::u8_range, crate::proofs::Ranges::u32_range))]
+pub fn take_proposal(alloc: Global, fields: &mut FieldReader<'_>) -> Result<Proposal, FieldError>
+    ensures { GivesOrMemory (λ p. p) result fields.new (proposal_at fields.old) }
+{
+    let view = fields.take_view()?;
+    let place = fields.take_number()?;
+    let event = take_event(alloc, fields)?;
+    Ok(Proposal::new(view, place, event))
+}
+
 #[tactic(auto, unfolding(crate::specs::StatementFields::place_vote_at), using(crate::proofs::Ranges::u8_range, crate::proofs::Ranges::u32_range))]
 pub fn take_place_vote(fields: &mut FieldReader<'_>) -> Result<PlaceVote, FieldError>
     ensures { GivesOrMemory (λ v. v) result fields.new (place_vote_at fields.old) }
@@ -112,4 +123,13 @@ pub fn take_wanted_place(fields: &mut FieldReader<'_>) -> Result<WantedPlace, Fi
 {
     let place = fields.take_number()?;
     Ok(WantedPlace::new(place))
+}
+
+#[tactic(auto, unfolding(crate::specs::StatementFields::decided_event_at), using(crate::proofs::Ranges::u8_range, crate::proofs::Ranges::u32_range))]
+pub fn take_decided_event(alloc: Global, fields: &mut FieldReader<'_>) -> Result<DecidedEvent, FieldError>
+    ensures { GivesOrMemory (λ d. d) result fields.new (decided_event_at fields.old) }
+{
+    let place = fields.take_number()?;
+    let event = take_event(alloc, fields)?;
+    Ok(DecidedEvent::new(place, event))
 }

@@ -1,0 +1,139 @@
+//! Reading packets.
+
+ghost use Rattle.std.specs.Prelude.{◌≡◌, ◌≤◌, All, length, IfOk, OnErr};
+ghost use Rattle.std.specs.Option.{option_map};
+ghost use Rattle.pws_base.specs.Fields.{Gives, GivesOrMemory};
+ghost use Rattle.pws_msg.specs.RowFields.{rows_at, counted_at};
+ghost use Rattle.pws_msg.specs.ContentFields.{content_of, content_of_kind};
+ghost use Rattle.pws_msg.specs.Packets.{IsSender, IsTags, IsVoucherOf, rule_of};
+ghost use Rattle.pws_msg.specs.PacketFields.{sender_at, part_at, sized_at, tags_at, voucher_at, bodies_at, packet_at, magic_at, version_at, packet_of, onward, in_packet, GivesHead, GivesPacket};
+
+use crate::content_reading::{take_content, take_content_of_kind};
+use crate::contents::Content;
+use crate::errors::{PacketError, PacketFault, PacketReadError};
+use crate::packets::{Packet, Voucher};
+use crate::rows::take_counted;
+use pws_base::bytes::Bytes;
+use pws_base::fields::{FieldError, FieldFault, FieldReader};
+use pws_base::lists::Sequence;
+use pws_base::shapes::{ReplicaId, Tag};
+use std::alloc::Global;
+
+/// The most bytes that a packet has.
+const LONGEST: usize = 98_304;
+
+/// Reads a sender.
+#[tactic(auto, unfolding(crate::specs::PacketFields::sender_at), using(crate::proofs::Ranges::u8_range))]
+fn take_sender(fields: &mut FieldReader<'_>) -> Result<ReplicaId, FieldFault>
+    ensures read { Gives (λ s. s) result fields.new (sender_at fields.old) }
+    ensures lawful { IfOk result (λ s. IsSender s) }
+{
+    let group = fields.take_group()?;
+    let index = fields.take_index()?;
+    Ok(ReplicaId { group, index })
+}
+
+/// The bytes of a content, after their length, as a text of their own.
+#[tactic(auto, unfolding(crate::specs::PacketFields::part_at))]
+fn take_part<'a>(fields: &mut FieldReader<'a>) -> Result<FieldReader<'a>, FieldFault>
+    ensures { Gives (λ part. part) result fields.new (part_at fields.old) }
+{
+    let size = fields.take_u32()?;
+    let at = fields.at();
+    let bytes = fields.take_bytes(size as usize)?;
+    Ok(FieldReader::within(bytes, at))
+}
+
+/// Reads a content after its length.
+#[tactic(auto, unfolding(crate::specs::PacketFields::sized_at))]
+fn take_sized_content(alloc: Global, fields: &mut FieldReader<'_>) -> Result<Content, FieldError>
+    ensures { GivesOrMemory (λ c. c) result fields.new (sized_at content_of fields.old) }
+{
+    let mut part = take_part(fields)?;
+    take_content(alloc, &mut part)
+}
+
+/// Reads a content of this kind after its length.
+#[tactic(auto, unfolding(crate::specs::PacketFields::sized_at))]
+fn take_sized_content_of_kind(alloc: Global, kind: u8, fields: &mut FieldReader<'_>) -> Result<Content, FieldError>
+    ensures { GivesOrMemory (λ c. c) result fields.new (sized_at (content_of_kind kind) fields.old) }
+{
+    let mut part = take_part(fields)?;
+    take_content_of_kind(alloc, kind, &mut part)
+}
+
+/// Reads tags.
+fn take_tags(alloc: Global, fields: &mut FieldReader<'_>) -> Result<Sequence<Tag>, FieldError>
+    ensures read { GivesOrMemory (λ tags. tags) result fields.new (tags_at fields.old) }
+    ensures lawful { IfOk result (λ tags. IsTags tags) }
+{
+    take_counted(alloc, fields, 0, 10)
+}
+
+/// Reads a voucher, whose content is to be of this kind.
+#[tactic(auto, unfolding(crate::specs::PacketFields::voucher_at))]
+fn take_voucher(alloc: Global, kind: u8, fields: &mut FieldReader<'_>) -> Result<Voucher, FieldError>
+    ensures { GivesOrMemory (λ v. v) result fields.new (voucher_at kind fields.old) }
+{
+    let sender = take_sender(fields)?;
+    let content = take_sized_content_of_kind(alloc, kind, fields)?;
+    let tags = take_tags(alloc, fields)?;
+    Ok(Voucher::new(sender, content, tags))
+}
+
+/// Reads vouchers, whose contents are to be of this kind, one after the other.
+fn take_vouchers(alloc: Global, kind: u8, fields: &mut FieldReader<'_>, count: u8) -> Result<Sequence<Voucher>, FieldError>
+    ensures read { GivesOrMemory (λ vs. vs) result fields.new (rows_at (voucher_at kind) count fields.old) }
+    ensures count { IfOk result (λ vs. length vs ≡ count) }
+{
+    let mut vouchers = Sequence::new(alloc);
+    for _ in 0..count {
+        vouchers.push(take_voucher(alloc, kind, fields)?)?;
+    }
+    Ok(vouchers)
+}
+
+/// Reads a body, where there is to be one.
+#[tactic(auto, unfolding(crate::specs::PacketFields::bodies_at), using(crate::proofs::Ranges::u8_range))]
+fn take_body(alloc: Global, bodies: u8, fields: &mut FieldReader<'_>) -> Result<Option<Bytes>, FieldError>
+    ensures { GivesOrMemory (λ b. b) result fields.new (bodies_at bodies fields.old) }
+{
+    let flag = fields.take_u8_within(bodies, bodies)?;
+    if flag == 0 {
+        return Ok(None);
+    }
+    let body = Bytes::from_slice(alloc, fields.take_body()?)?;
+    Ok(Some(body))
+}
+
+/// The letters PWS.
+#[tactic(auto, unfolding(crate::specs::PacketFields::magic_at))]
+fn take_magic(fields: &mut FieldReader<'_>) -> Result<(), PacketError>
+    ensures { GivesHead result fields.new (magic_at fields.old) }
+{
+    let at = fields.at();
+    let magic = fields.take_bytes(3)?;
+    if magic[0] == b'P' && magic[1] == b'W' && magic[2] == b'S' {
+        return Ok(());
+    }
+    Err(PacketError {
+        kind: PacketFault::Magic,
+        at,
+    })
+}
+
+/// The version, 1.
+#[tactic(auto, unfolding(crate::specs::PacketFields::version_at))]
+fn take_version(fields: &mut FieldReader<'_>) -> Result<(), PacketError>
+    ensures { GivesHead result fields.new (version_at fields.old) }
+{
+    let at = fields.at();
+    let version = fields.take_u8()?;
+    if version == 1 {
+        return Ok(());
+    }
+    Err(PacketError {
+        kind: PacketFault::Version,
+        at,
+    })
+}
