@@ -1,5 +1,5 @@
 -- What the reading of an event's text gives, field by field; this project's own.
-use Rattle.std.specs.Prelude.{ℕ, zero, suc, ◌+◌, ◌==◌, if◌then◌else◌, List, [], ◌∷◌, Result, Ok, Err}
+use Rattle.std.specs.Prelude.{ℕ, zero, suc, ◌+◌, ◌==◌, if◌then◌else◌, List, [], ◌∷◌, Result, Ok}
 use Rattle.pws_base.specs.declared.fields.FaultKind.TheVariants.{Kind, Range}
 use Rattle.pws_base.specs.declared.fields.FieldFault.{FieldFault}
 use Rattle.pws_base.specs.Fields.{Unread, unread, ◌>>=◌, refused, u8_field, u64_field, digest_field, u8_within, group_field, number_field, body_field, ended}

@@ -19,3 +19,4 @@ pub mod laws;
 pub mod lists;
 pub mod readings;
 pub mod requests;
+pub mod times;
