@@ -2,3 +2,11 @@ pub mod Grown
 pub mod Kept
 pub mod Latest
 pub mod Once
+pub mod Waiting
+pub mod Preserved
+pub mod Counted
+pub mod Asked
+pub mod Outgoing
+pub mod Fields
+pub mod Rising
+pub mod Answered

@@ -3,8 +3,10 @@ pub mod Counters
 pub mod Effects
 pub mod EventFields
 pub mod Events
+pub mod Histories
 pub mod Laws
 pub mod Lists
 pub mod Readings
 pub mod Requests
 pub mod Slots
+pub mod Times

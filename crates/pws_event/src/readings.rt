@@ -8,6 +8,15 @@ use pws_base::memory::Memory;
 use std::alloc::Global;
 use std::marker::Model;
 
+/// What is asked of the replicas of a group.
+#[derive(Clone, Copy, Debug, PartialEq, Eq)]
+pub enum Sort {
+    /// The time, by readings of their clocks.
+    Clock,
+    /// A seed, by shares of it.
+    Random,
+}
+
 /// What the replica of this index, 0 to 9, read of the clock, in milliseconds.
 #[derive(Clone, Copy, Debug, PartialEq, Eq)]
 pub struct Reading {
