@@ -170,9 +170,13 @@ fn read_kind(
     }
 }
 
-/// Reads an event, with its kind byte.
+/// Reads an event, with its kind byte, from the front of what is left of a text.
+///
+/// # Errors
+///
+/// `Fault` as `read_event`, but for bytes that follow, and else `Memory` only.
 #[tactic(auto, unfolding(crate::specs::EventFields::event_at))]
-fn read_fields(alloc: Global, fields: &mut FieldReader<'_>) -> Result<Event, FieldError>
+pub fn read_fields(alloc: Global, fields: &mut FieldReader<'_>) -> Result<Event, FieldError>
     ensures { GivesOrMemory (λ e. e) result fields.new (event_at fields.old) }
 {
     let unknown = fields.fault(FaultKind::Kind);

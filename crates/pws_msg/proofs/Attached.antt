@@ -2,7 +2,8 @@
 use Rattle.std.proofs.Common.{◌≡◌, ℕ, ◌+◌, ◌<◌, ◌≤◌, List, length, take, get_or, subst, Option, All}
 use Rattle.std.proofs.lemmas.List.{take_all}
 use Rattle.std.proofs.lemmas.List.Elements.{All-more}
-use Rattle.pws_msg.specs.Packets.{VoucherFields, IsVoucher, IsVoucherOf, AttachmentRule, IsAttachment, Fits}
+use Rattle.pws_msg.specs.declared.rules.AttachmentRule.{AttachmentRule}
+use Rattle.pws_msg.specs.Packets.{VoucherFields, IsVoucher, IsVoucherOf, IsAttachment, Fits}
 
 pub attached : (rule : AttachmentRule) (body : Option (List ℕ)) (vouchers : List VoucherFields) → Fits rule body vouchers → All IsVoucher vouchers → IsAttachment rule body vouchers
 attached rule body vouchers h k = record {

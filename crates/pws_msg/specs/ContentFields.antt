@@ -47,9 +47,14 @@ content_of u = do
   c ← fields_at kind.0 (unknown_kind u) kind.1
   ended c
 
--- one that is to be of this kind
+-- the fields of a content that is to be of this kind, with the byte of its kind
+unfoldable pub wanted_at : ℕ → Unread → Result (Content × Unread) FieldFault
+wanted_at wanted u = do
+  kind ← u8_field u
+  if kind.0 == wanted then fields_at kind.0 (unknown_kind u) kind.1 else Err (unknown_kind u)
+
+-- a content that is to be of this kind, and ends where the bytes do
 unfoldable pub content_of_kind : ℕ → Unread → Result Content FieldFault
 content_of_kind wanted u = do
-  kind ← u8_field u
-  c ← if kind.0 == wanted then fields_at kind.0 (unknown_kind u) kind.1 else Err (unknown_kind u)
+  c ← wanted_at wanted u
   ended c

@@ -11,6 +11,7 @@ pub mod Packets
 pub mod Reported
 pub mod RowFields
 pub mod Rows
+pub mod Rules
 pub mod StatementFields
 pub mod StatementTexts
 pub mod Statements

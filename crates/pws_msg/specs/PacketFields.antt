@@ -5,7 +5,8 @@ use Rattle.pws_base.specs.Fields.{Unread, unread, ◌>>=◌, refused, bytes_fiel
 use Rattle.pws_base.specs.declared.shapes.ReplicaId.{ReplicaId}
 use Rattle.pws_msg.specs.RowFields.{counted_at}
 use Rattle.pws_msg.specs.ContentFields.{content_of, content_of_kind}
-use Rattle.pws_msg.specs.Packets.{VoucherFields, PacketFields, rule_of}
+use Rattle.pws_msg.specs.Packets.{VoucherFields, PacketFields}
+use Rattle.pws_msg.specs.Rules.{rule_of}
 use Rattle.pws_msg.specs.declared.contents.Content.{Content}
 use Rattle.pws_msg.specs.PacketFaults.{packet_error_of}
 use Rattle.pws_msg.specs.declared.errors.PacketFault.TheVariants as packet_fault

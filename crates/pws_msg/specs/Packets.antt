@@ -7,7 +7,8 @@ use Rattle.pws_msg.specs.Rows.{IsDigest, digest_text}
 use Rattle.pws_msg.specs.StatementTexts.{counted_text}
 use Rattle.pws_msg.specs.Contents.{SpellsContent, IsContent, kind_of, content_text}
 use Rattle.pws_msg.specs.declared.contents.Content.{Content}
-use Rattle.pws_msg.specs.declared.contents.Content.TheVariants as content
+use Rattle.pws_msg.specs.declared.rules.AttachmentRule.{AttachmentRule}
+use Rattle.pws_msg.specs.Rules.{rule_of}
 
 -- a replica that says something, what it says, and a tag for each of those that hear it
 pub record VoucherFields : Type 0 where
@@ -38,21 +39,6 @@ pub record IsVoucher (v : VoucherFields) : Type 0 where
   pub sender : IsSender v.sender
   pub content : IsContent v.content
   pub tags : IsTags v.tags
-
--- what is attached to a content: how many bodies, the kind of each voucher, and how many vouchers there are
-pub record AttachmentRule : Type 0 where
-  pub bodies : ℕ
-  pub kind : ℕ
-  pub least : ℕ
-  pub most : ℕ
-
--- a REPLY has a body, and up to ten vouchers, each a REPLY; a PART has one voucher, a REPLY; a RELAY has one, a
--- VIEW_CHANGE; all others have nothing
-abbrev pub rule_of : Content → AttachmentRule
-rule_of (content.Reply r) = record { bodies = 1; kind = 2; least = 0; most = 10 }
-rule_of (content.Part r) = record { bodies = 0; kind = 2; least = 1; most = 1 }
-rule_of (content.Relay n) = record { bodies = 0; kind = 10; least = 1; most = 1 }
-rule_of _ = record { bodies = 0; kind = 0; least = 0; most = 0 }
 
 -- a voucher of this kind
 pub record IsVoucherOf (kind : ℕ) (v : VoucherFields) : Type 0 where

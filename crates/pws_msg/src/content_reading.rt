@@ -2,7 +2,9 @@
 
 ghost use Rattle.pws_base.specs.declared.fields.FieldFault.{FieldFault};
 ghost use Rattle.pws_base.specs.Fields.{GivesOrMemory, GivesWhole};
-ghost use Rattle.pws_msg.specs.ContentFields.{fields_at, content_of, content_of_kind};
+ghost use Rattle.std.specs.Prelude.{◌≡◌, IfOk};
+ghost use Rattle.pws_msg.specs.Contents.{kind_of};
+ghost use Rattle.pws_msg.specs.ContentFields.{fields_at, content_of, wanted_at, content_of_kind};
 
 use crate::contents::Content;
 use crate::reported::{take_new_view, take_view_change};
@@ -11,13 +13,14 @@ use crate::taking::{
     take_place_vote, take_proposal, take_reply_note, take_wanted_place,
 };
 use pws_base::fields::{FaultKind, FieldError, FieldFault, FieldReader};
-use crate::event_reading::take_event;
+use pws_event::parsing::read_fields;
 use std::alloc::Global;
 
 /// Reads the fields of a content of this kind.
 #[tactic(auto, unfolding(crate::specs::ContentFields::fields_at))]
 fn take_fields(alloc: Global, kind: u8, unknown: FieldFault, fields: &mut FieldReader<'_>) -> Result<Content, FieldError>
-    ensures { GivesOrMemory (λ c. c) result fields.new (fields_at kind unknown fields.old) }
+    ensures read { GivesOrMemory (λ c. c) result fields.new (fields_at kind unknown fields.old) }
+    ensures kind { IfOk result (λ c. kind_of c ≡ kind) }
 {
     match kind {
         1 => Ok(Content::Request(take_own_request(alloc, fields)?)),
@@ -36,7 +39,7 @@ fn take_fields(alloc: Global, kind: u8, unknown: FieldFault, fields: &mut FieldR
         14 => Ok(Content::Fetch(take_wanted_place(fields)?)),
         15 => Ok(Content::Done(take_decided_event(alloc, fields)?)),
         16 => Ok(Content::Need(fields.take_digest()?)),
-        17 => Ok(Content::Give(take_event(alloc, fields)?)),
+        17 => Ok(Content::Give(read_fields(alloc, fields)?)),
         _ => Err(FieldError::Fault(unknown)),
     }
 }
@@ -53,17 +56,28 @@ pub fn take_content(alloc: Global, fields: &mut FieldReader<'_>) -> Result<Conte
     Ok(content)
 }
 
-/// Reads a content that is to be of this kind, and ends where the bytes do.
-#[tactic(auto, unfolding(crate::specs::ContentFields::content_of_kind))]
-pub fn take_content_of_kind(alloc: Global, wanted: u8, fields: &mut FieldReader<'_>) -> Result<Content, FieldError>
-    ensures { GivesWhole (λ c. c) result (content_of_kind wanted fields.old) }
+/// Reads the fields of a content that is to be of this kind, with the byte of its kind.
+#[tactic(auto, unfolding(crate::specs::ContentFields::wanted_at))]
+fn take_wanted(alloc: Global, wanted: u8, fields: &mut FieldReader<'_>) -> Result<Content, FieldError>
+    ensures read { GivesOrMemory (λ c. c) result fields.new (wanted_at wanted fields.old) }
+    ensures kind { IfOk result (λ c. kind_of c ≡ wanted) }
 {
     let unknown = fields.fault(FaultKind::Kind);
     let kind = fields.take_u8()?;
-    if kind != wanted {
-        return Err(FieldError::Fault(unknown));
+    if kind == wanted {
+        take_fields(alloc, kind, unknown, fields)
+    } else {
+        Err(FieldError::Fault(unknown))
     }
-    let content = take_fields(alloc, kind, unknown, fields)?;
+}
+
+/// Reads a content that is to be of this kind, and ends where the bytes do.
+#[tactic(auto, unfolding(crate::specs::ContentFields::content_of_kind))]
+pub fn take_content_of_kind(alloc: Global, wanted: u8, fields: &mut FieldReader<'_>) -> Result<Content, FieldError>
+    ensures read { GivesWhole (λ c. c) result (content_of_kind wanted fields.old) }
+    ensures kind { IfOk result (λ c. kind_of c ≡ wanted) }
+{
+    let content = take_wanted(alloc, wanted, fields)?;
     fields.end()?;
     Ok(content)
 }

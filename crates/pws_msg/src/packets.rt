@@ -4,7 +4,8 @@ ghost use Rattle.std.specs.Prelude.{◌≡◌, ◌≤◌, ◌++◌, [], ◌∷�
 ghost use Rattle.std.specs.List.{flat_map};
 ghost use Rattle.std.specs.Option.{option_map, option_copied};
 ghost use Rattle.pws_msg.specs.Rows.{IsDigest};
-ghost use Rattle.pws_msg.specs.Packets.{IsSender, IsTags, IsVoucher, IsAttachment, Fits, IsPacket, rule_of, voucher_text, packet_text};
+ghost use Rattle.pws_msg.specs.Rules.{rule_of};
+ghost use Rattle.pws_msg.specs.Packets.{IsSender, IsTags, IsVoucher, IsAttachment, Fits, IsPacket, voucher_text, packet_text};
 
 use crate::contents::Content;
 use pws_base::bytes::Bytes;

@@ -8,7 +8,7 @@ use crate::readings::ReadingValue;
 use crate::requests::{CallName, OwnReading, OwnRequest, ReplyNote};
 use pws_base::bytes::Bytes;
 use pws_base::fields::{FieldError, FieldFault, FieldReader};
-use crate::event_reading::take_event;
+use pws_event::parsing::read_fields;
 use std::alloc::Global;
 
 #[tactic(auto, unfolding(crate::specs::StatementFields::time_at))]
@@ -84,7 +84,7 @@ pub fn take_proposal(alloc: Global, fields: &mut FieldReader<'_>) -> Result<Prop
 {
     let view = fields.take_view()?;
     let place = fields.take_number()?;
-    let event = take_event(alloc, fields)?;
+    let event = read_fields(alloc, fields)?;
     Ok(Proposal::new(view, place, event))
 }
 
@@ -130,6 +130,6 @@ pub fn take_decided_event(alloc: Global, fields: &mut FieldReader<'_>) -> Result
     ensures { GivesOrMemory (λ d. d) result fields.new (decided_event_at fields.old) }
 {
     let place = fields.take_number()?;
-    let event = take_event(alloc, fields)?;
+    let event = read_fields(alloc, fields)?;
     Ok(DecidedEvent::new(place, event))
 }
