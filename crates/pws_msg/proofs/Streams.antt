@@ -26,11 +26,15 @@ rest_of_begun head (suc n) packet h =
     let k = h.known (omega arith) in
     let more : List ℕ = replicate (suc n - length packet) 0 in
     let size : length (packet ++ more) ≡ suc n = length-append packet more ∙ (ap (λ k. length packet + k) (length-replicate (suc n - length packet) 0) ∙ omega (arith, k)) in
-    inr (packet ++ more, more, record {
-      framed = record { some = omega (arith, size); few = omega (arith, size, k) };
-      some = omega (arith, length-replicate {A = ℕ} (suc n - length packet) 0, k);
-      text = rw (k.1, size, append_assoc) refl;
-    })
+    inr (
+      packet ++ more,
+      more,
+      record {
+        framed = record { some = omega (arith, size); few = omega (arith, size, k) };
+        some = omega (arith, length-replicate {A = ℕ} (suc n - length packet) 0, k);
+        text = rw (k.1, size, append_assoc) refl;
+      },
+    )
 
 -- a rest is shorter than a frame
 pub length_rest : (rest : List ℕ) → IsRest rest → length rest < 98308
@@ -50,12 +54,16 @@ stream_on bytes packets rest next more last h k =
     }
 
 pub broken_on : (bytes : List ℕ) (packets : List (List ℕ)) (rest next : List ℕ) (more : List (List ℕ)) (at : ℕ) → IsStream bytes packets rest → IsBroken (rest ++ next) more at → IsBroken (bytes ++ next) (packets ++ more) (length bytes - length rest + at)
-broken_on bytes packets rest next more at h (size, left, k) = (size, left, record {
-      framed = All-append IsFramed packets more h.framed k.framed;
-      place = rw (flat_map-append frame_text packets more) (omega (arith, ap length h.text, length-append (frames_text packets) rest, k.place, length-append (frames_text packets) (frames_text more)));
-      wrong = k.wrong;
-      text = rw (h.text, append_assoc, k.text, ← append_assoc, flat_map-append frame_text packets more) refl;
-    })
+broken_on bytes packets rest next more at h (size, left, k) = (
+  size,
+  left,
+  record {
+    framed = All-append IsFramed packets more h.framed k.framed;
+    place = rw (flat_map-append frame_text packets more) (omega (arith, ap length h.text, length-append (frames_text packets) rest, k.place, length-append (frames_text packets) (frames_text more)));
+    wrong = k.wrong;
+    text = rw (h.text, append_assoc, k.text, ← append_assoc, flat_map-append frame_text packets more) refl;
+  },
+)
 
 -- where fewer than four bytes are kept, their field isn't whole
 pub unknown_is : (head : List ℕ) (size : ℕ) (packet value : List ℕ) → IsBegun head size packet → head ++ packet ≡ value → length value < 4 → (size ≡ 0) × (packet ≡ []) × (value ≡ head)

@@ -1,6 +1,10 @@
 -- What follows from the formats alone; this project's own.
-use Rattle.std.specs.Prelude.{◌≡◌, ℕ, List, ◌++◌}
+use Rattle.std.specs.Prelude.{◌≡◌, ◌↔◌, ℕ, List, ◌++◌, Ok}
+use Rattle.pws_msg.specs.Bytes.{IsBytes}
 use Rattle.pws_msg.specs.Frames.{IsStream, IsBroken}
+use Rattle.pws_msg.specs.Packets.{PacketFields, IsPacket, packet_text}
+use Rattle.pws_msg.specs.PacketFields.{packet_of}
+use Rattle.pws_msg.specs.Spelling.{Spells}
 
 -- bytes are the stream of one list of packets and one rest
 abbrev pub StreamsAreOne : Type 0
@@ -13,3 +17,23 @@ BreaksAreOne = (bytes : List ℕ) (packets others : List (List ℕ)) (at other :
 -- what is broken is the beginning of no stream
 abbrev pub NoStreamIsBroken : Type 0
 NoStreamIsBroken = (bytes more : List ℕ) (packets others : List (List ℕ)) (at : ℕ) (rest : List ℕ) → IsBroken bytes packets at → IsStream (bytes ++ more) others rest → ⊥
+
+-- a packet whose fields are in range is what reading its spelling gives
+abbrev pub PacketsReadBack : Type 0
+PacketsReadBack = (p : PacketFields) → IsPacket p → packet_of (packet_text p) ≡ Ok p
+
+-- what reading bytes gives has its fields in range, and these bytes are its spelling
+abbrev pub PacketsWriteBack : Type 0
+PacketsWriteBack = (bytes : List ℕ) (p : PacketFields) → IsBytes bytes → packet_of bytes ≡ Ok p → IsPacket p × (packet_text p ≡ bytes)
+
+-- reading bytes gives a packet exactly where they spell it
+abbrev pub ReadsWhatIsSpelled : Type 0
+ReadsWhatIsSpelled = (bytes : List ℕ) (p : PacketFields) → IsBytes bytes → (packet_of bytes ≡ Ok p) ↔ Spells p bytes
+
+-- bytes spell at most one packet
+abbrev pub NoTextSpellsTwo : Type 0
+NoTextSpellsTwo = (bytes : List ℕ) (p q : PacketFields) → Spells p bytes → Spells q bytes → p ≡ q
+
+-- a packet is spelled by one text
+abbrev pub OneSpelling : Type 0
+OneSpelling = (p : PacketFields) (bytes others : List ℕ) → Spells p bytes → Spells p others → bytes ≡ others

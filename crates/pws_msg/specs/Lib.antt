@@ -1,4 +1,5 @@
 pub mod Begun
+pub mod Bytes
 pub mod ContentFields
 pub mod Contents
 pub mod Deframing
@@ -12,6 +13,7 @@ pub mod Reported
 pub mod RowFields
 pub mod Rows
 pub mod Rules
+pub mod Spelling
 pub mod StatementFields
 pub mod StatementTexts
 pub mod Statements

@@ -1,5 +1,5 @@
 -- Packets: the bytes that spell one, and its ranges; this project's own format.
-use Rattle.std.specs.Prelude.{◌≡◌, ℕ, ◌≤◌, List, [], ◌∷◌, ◌++◌, length, All, Option, Some, None, option_to_list}
+use Rattle.std.specs.Prelude.{◌≡◌, ℕ, ◌≤◌, List, [], ◌∷◌, ◌++◌, length, All, Option, Some, None, IfSome, option_to_list}
 use Rattle.std.specs.List.{flat_map}
 use Rattle.pws_base.specs.Texts.{sized_text}
 use Rattle.pws_base.specs.declared.shapes.ReplicaId.{ReplicaId}
@@ -48,7 +48,7 @@ pub record IsVoucherOf (kind : ℕ) (v : VoucherFields) : Type 0 where
 -- what is attached is as the rule has it
 pub record IsAttachment (rule : AttachmentRule) (body : Option (List ℕ)) (vouchers : List VoucherFields) : Type 0 where
   pub bodies : length (option_to_list body) ≡ rule.bodies
-  pub short : All (λ b. length b ≤ 32768) (option_to_list body)
+  pub short : IfSome body (λ b. length b ≤ 32768)
   pub least : rule.least ≤ length vouchers
   pub most : length vouchers ≤ rule.most
   pub kinds : All (IsVoucherOf rule.kind) vouchers
@@ -56,7 +56,7 @@ pub record IsAttachment (rule : AttachmentRule) (body : Option (List ℕ)) (vouc
 -- so much of it as a caller has to know: the vouchers' own fields are in range by their type
 pub record Fits (rule : AttachmentRule) (body : Option (List ℕ)) (vouchers : List VoucherFields) : Type 0 where
   pub bodies : length (option_to_list body) ≡ rule.bodies
-  pub short : All (λ b. length b ≤ 32768) (option_to_list body)
+  pub short : IfSome body (λ b. length b ≤ 32768)
   pub least : rule.least ≤ length vouchers
   pub most : length vouchers ≤ rule.most
   pub kinds : All (λ v. kind_of v.content ≡ rule.kind) vouchers

@@ -9,8 +9,8 @@ ghost use Rattle.pws_msg.specs.ContentFields.{fields_at, content_of, wanted_at, 
 use crate::contents::Content;
 use crate::reported::{take_new_view, take_view_change};
 use crate::taking::{
-    take_call_name, take_change_name, take_decided_event, take_own_reading, take_own_request, take_place_digest,
-    take_place_vote, take_proposal, take_reply_note, take_wanted_place,
+    take_call_name, take_change_name, take_decided_event, take_own_reading, take_own_request,
+    take_place_digest, take_place_vote, take_proposal, take_reply_note, take_wanted_place,
 };
 use pws_base::fields::{FaultKind, FieldError, FieldFault, FieldReader};
 use pws_event::parsing::read_fields;
@@ -18,7 +18,12 @@ use std::alloc::Global;
 
 /// Reads the fields of a content of this kind.
 #[tactic(auto, unfolding(crate::specs::ContentFields::fields_at))]
-fn take_fields(alloc: Global, kind: u8, unknown: FieldFault, fields: &mut FieldReader<'_>) -> Result<Content, FieldError>
+fn take_fields(
+    alloc: Global,
+    kind: u8,
+    unknown: FieldFault,
+    fields: &mut FieldReader<'_>,
+) -> Result<Content, FieldError>
     ensures read { GivesOrMemory (λ c. c) result fields.new (fields_at kind unknown fields.old) }
     ensures kind { IfOk result (λ c. kind_of c ≡ kind) }
 {
@@ -58,7 +63,11 @@ pub fn take_content(alloc: Global, fields: &mut FieldReader<'_>) -> Result<Conte
 
 /// Reads the fields of a content that is to be of this kind, with the byte of its kind.
 #[tactic(auto, unfolding(crate::specs::ContentFields::wanted_at))]
-fn take_wanted(alloc: Global, wanted: u8, fields: &mut FieldReader<'_>) -> Result<Content, FieldError>
+fn take_wanted(
+    alloc: Global,
+    wanted: u8,
+    fields: &mut FieldReader<'_>,
+) -> Result<Content, FieldError>
     ensures read { GivesOrMemory (λ c. c) result fields.new (wanted_at wanted fields.old) }
     ensures kind { IfOk result (λ c. kind_of c ≡ wanted) }
 {
@@ -73,7 +82,11 @@ fn take_wanted(alloc: Global, wanted: u8, fields: &mut FieldReader<'_>) -> Resul
 
 /// Reads a content that is to be of this kind, and ends where the bytes do.
 #[tactic(auto, unfolding(crate::specs::ContentFields::content_of_kind))]
-pub fn take_content_of_kind(alloc: Global, wanted: u8, fields: &mut FieldReader<'_>) -> Result<Content, FieldError>
+pub fn take_content_of_kind(
+    alloc: Global,
+    wanted: u8,
+    fields: &mut FieldReader<'_>,
+) -> Result<Content, FieldError>
     ensures read { GivesWhole (λ c. c) result (content_of_kind wanted fields.old) }
     ensures kind { IfOk result (λ c. kind_of c ≡ wanted) }
 {

@@ -5,7 +5,9 @@ ghost use Rattle.sha2.specs.Sha256.{sha256};
 ghost use Rattle.pws_msg.specs.Rows.{IsDigest};
 ghost use Rattle.pws_msg.specs.Contents.{SpellsContent, IsContent, kind_of, fields_text, content_text, content_digest_of};
 
-use crate::places::{ChangeName, DecidedEvent, PlaceDigest, PlaceVote, Proposal, WantedPlace, event_is_lawful};
+use crate::places::{
+    ChangeName, DecidedEvent, PlaceDigest, PlaceVote, Proposal, WantedPlace, event_is_lawful,
+};
 use crate::putting::{
     put_call_name, put_change_name, put_decided_event, put_event, put_own_reading, put_own_request,
     put_place_digest, put_place_vote, put_proposal, put_reply_note, put_wanted_place,
@@ -90,56 +92,29 @@ impl Content {
         ensures { IsContent self.now }
     {
         match self {
-            Content::Request(request) => {
-                let _ = request.number();
-            }
-            Content::Reply(reply) => {
-                let _ = reply.number();
-            }
-            Content::Part(reply) => {
-                let _ = reply.number();
-            }
-            Content::Expired(call) => {
-                let _ = call.number();
-            }
-            Content::Reading(reading) => {
-                let _ = reading.ask();
-            }
-            Content::PrePrepare(proposal) => {
-                let _ = proposal.view();
-            }
-            Content::Prepare(vote) => {
-                let _ = vote.view();
-            }
-            Content::Commit(vote) => {
-                let _ = vote.view();
-            }
-            Content::Checkpoint(checkpoint) => {
-                let _ = checkpoint.place();
-            }
-            Content::ViewChange(change) => {
-                let _ = change.change();
-            }
-            Content::Ack(change) => {
-                let _ = change.view();
-            }
-            Content::Relay(change) => {
-                let _ = change.view();
-            }
-            Content::NewView(new_view) => {
-                let _ = new_view.new_view();
-            }
-            Content::Fetch(wanted) => {
-                let _ = wanted.place();
-            }
-            Content::Done(decided) => {
-                let _ = decided.place();
-            }
+            Content::Request(request) => looked_at(request.number()),
+            Content::Reply(reply) => looked_at(reply.number()),
+            Content::Part(reply) => looked_at(reply.number()),
+            Content::Expired(call) => looked_at(call.number()),
+            Content::Reading(reading) => looked_at(reading.ask()),
+            Content::PrePrepare(proposal) => looked_at(proposal.view()),
+            Content::Prepare(vote) => looked_at(vote.view()),
+            Content::Commit(vote) => looked_at(vote.view()),
+            Content::Checkpoint(checkpoint) => looked_at(checkpoint.place()),
+            Content::ViewChange(change) => looked_at(change.change().view),
+            Content::Ack(change) => looked_at(change.view()),
+            Content::NewView(new_view) => looked_at(new_view.new_view().view),
+            Content::Relay(change) => looked_at(change.view()),
+            Content::Fetch(wanted) => looked_at(wanted.place()),
+            Content::Done(decided) => looked_at(decided.place()),
             Content::Need(digest) => digest_is_lawful(digest),
             Content::Give(event) => event_is_lawful(event),
         }
     }
 }
+
+/// A field was looked at, whose reader tells that all fields are in range.
+fn looked_at(_field: u32) {}
 
 /// A digest has 32 bytes.
 fn digest_is_lawful(digest: &Digest)

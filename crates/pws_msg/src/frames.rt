@@ -4,9 +4,8 @@ use pws_base::bytes::Bytes;
 use pws_base::lists::Sequence;
 use pws_base::memory::Memory;
 use std::alloc::Global;
-use std::fmt;
 use std::marker::Model;
-use std::mem;
+use std::{fmt, mem};
 use thiserror::Error;
 
 /// The most bytes that a frame holds.

@@ -1,6 +1,6 @@
 //! Laws of the formats: each is the contract of a function that does nothing.
 
-ghost use Rattle.pws_msg.specs.Laws.{StreamsAreOne, BreaksAreOne, NoStreamIsBroken};
+ghost use Rattle.pws_msg.specs.Laws.{StreamsAreOne, BreaksAreOne, NoStreamIsBroken, PacketsReadBack, PacketsWriteBack, ReadsWhatIsSpelled, NoTextSpellsTwo, OneSpelling};
 
 /// Bytes are the stream of at most one list of packets, with one rest, and broken at most at one place.
 pub fn streams_are_one()
@@ -11,4 +11,21 @@ pub fn streams_are_one()
 /// No stream begins with bytes that are broken.
 pub fn no_stream_is_broken()
     ensures { NoStreamIsBroken }
+{}
+
+/// Reading what was written gives the packet.
+pub fn packets_read_back()
+    ensures { PacketsReadBack }
+{}
+
+/// Writing what was read gives the bytes.
+pub fn packets_write_back()
+    ensures { PacketsWriteBack }
+{}
+
+/// Reading gives a packet exactly where the bytes spell it; no bytes spell two packets, and no packet has two spellings.
+pub fn packets_are_spelled()
+    ensures reads { ReadsWhatIsSpelled }
+    ensures packets { NoTextSpellsTwo }
+    ensures spellings { OneSpelling }
 {}

@@ -1,8 +1,10 @@
 //! Reading packets.
 
-ghost use Rattle.std.specs.Prelude.{◌≡◌, ◌≤◌, All, length, IfOk, option_to_list};
+ghost use Rattle.std.specs.Prelude.{◌≡◌, ◌≤◌, All, length, IfOk, IfSome, option_to_list};
 ghost use Rattle.pws_base.specs.Fields.{Gives, GivesOrMemory};
 ghost use Rattle.pws_msg.specs.RowFields.{rows_at, counted_at};
+ghost use Rattle.pws_msg.specs.Bytes.{IsBytes};
+ghost use Rattle.pws_msg.specs.Spelling.{IsSpelled};
 ghost use Rattle.pws_msg.specs.ContentFields.{content_of, content_of_kind};
 ghost use Rattle.pws_msg.specs.Contents.{kind_of};
 ghost use Rattle.pws_msg.specs.Rules.{rule_of};
@@ -57,7 +59,11 @@ fn take_sized_content(alloc: Global, fields: &mut FieldReader<'_>) -> Result<Con
 
 /// Reads a content of this kind after its length.
 #[tactic(auto, unfolding(crate::specs::PacketFields::sized_at))]
-fn take_sized_content_of_kind(alloc: Global, kind: u8, fields: &mut FieldReader<'_>) -> Result<Content, FieldError>
+fn take_sized_content_of_kind(
+    alloc: Global,
+    kind: u8,
+    fields: &mut FieldReader<'_>,
+) -> Result<Content, FieldError>
     ensures read { GivesOrMemory (λ c. c) result fields.new (sized_at (content_of_kind kind) fields.old) }
     ensures kind { IfOk result (λ c. kind_of c ≡ kind) }
 {
@@ -75,7 +81,11 @@ fn take_tags(alloc: Global, fields: &mut FieldReader<'_>) -> Result<Sequence<Tag
 
 /// Reads a voucher, whose content is to be of this kind.
 #[tactic(auto, unfolding(crate::specs::PacketFields::voucher_at))]
-fn take_voucher(alloc: Global, kind: u8, fields: &mut FieldReader<'_>) -> Result<Voucher, FieldError>
+fn take_voucher(
+    alloc: Global,
+    kind: u8,
+    fields: &mut FieldReader<'_>,
+) -> Result<Voucher, FieldError>
     ensures read { GivesOrMemory (λ v. v) result fields.new (voucher_at kind fields.old) }
     ensures kind { IfOk result (λ v. kind_of v.content ≡ kind) }
 {
@@ -86,7 +96,12 @@ fn take_voucher(alloc: Global, kind: u8, fields: &mut FieldReader<'_>) -> Result
 }
 
 /// Reads vouchers, whose contents are to be of this kind, one after the other.
-fn take_vouchers(alloc: Global, kind: u8, fields: &mut FieldReader<'_>, count: u8) -> Result<Sequence<Voucher>, FieldError>
+fn take_vouchers(
+    alloc: Global,
+    kind: u8,
+    fields: &mut FieldReader<'_>,
+    count: u8,
+) -> Result<Sequence<Voucher>, FieldError>
     ensures read { GivesOrMemory (λ vs. vs) result fields.new (rows_at (voucher_at kind) count fields.old) }
     ensures kinds { IfOk result (λ vs. All (λ v. kind_of v.content ≡ kind) vs) }
     ensures count { IfOk result (λ vs. length vs ≡ count) }
@@ -100,7 +115,11 @@ fn take_vouchers(alloc: Global, kind: u8, fields: &mut FieldReader<'_>, count: u
 
 /// Reads vouchers after their count, as the rule for what is attached has them.
 #[tactic(auto, unfolding(crate::specs::RowFields::counted_at), using(crate::proofs::Ranges::u8_range))]
-fn take_counted_vouchers(alloc: Global, rule: AttachmentRule, fields: &mut FieldReader<'_>) -> Result<Sequence<Voucher>, FieldError>
+fn take_counted_vouchers(
+    alloc: Global,
+    rule: AttachmentRule,
+    fields: &mut FieldReader<'_>,
+) -> Result<Sequence<Voucher>, FieldError>
     ensures read { GivesOrMemory (λ vs. vs) result fields.new (counted_at (voucher_at rule.kind) rule.least rule.most fields.old) }
     ensures least { IfOk result (λ vs. rule.least ≤ length vs) }
     ensures most { IfOk result (λ vs. length vs ≤ rule.most) }
@@ -112,11 +131,15 @@ fn take_counted_vouchers(alloc: Global, rule: AttachmentRule, fields: &mut Field
 
 /// Reads a body, where there is to be one.
 #[tactic(auto, unfolding(crate::specs::PacketFields::bodies_at), using(crate::proofs::Ranges::u8_range))]
-fn take_body(alloc: Global, bodies: u8, fields: &mut FieldReader<'_>) -> Result<Option<Bytes>, FieldError>
+fn take_body(
+    alloc: Global,
+    bodies: u8,
+    fields: &mut FieldReader<'_>,
+) -> Result<Option<Bytes>, FieldError>
     requires { bodies ≤ 1 }
     ensures read { GivesOrMemory (λ b. b) result fields.new (bodies_at bodies fields.old) }
     ensures bodies { IfOk result (λ b. length (option_to_list b) ≡ bodies) }
-    ensures short { IfOk result (λ b. All (λ bytes. length bytes ≤ 32768) (option_to_list b)) }
+    ensures short { IfOk result (λ b. IfSome b (λ bytes. length bytes ≤ 32768)) }
 {
     let flag = fields.take_u8_within(bodies, bodies)?;
     if flag == 0 {
@@ -173,17 +196,9 @@ fn take_packet(alloc: Global, fields: &mut FieldReader<'_>) -> Result<Packet, Fi
     Ok(Packet::new(sender, receiver, content, tags, body, vouchers))
 }
 
-/// The packet that bytes spell, by the tables of packets and of contents in docs/FORMATS.md.
-///
-/// # Errors
-///
-/// `Refused` exactly where the bytes spell no packet, with the first refusal: `Long` at 98,304 for longer input, and
-/// then of the first field that fails in its order. `Short` stands at the first byte of a field that isn't whole
-/// within the packet or its content, `Magic` at 0, `Version` at 3, `Kind` at a kind byte that no content has or that a
-/// voucher isn't to have here, `Range` at the first byte of a field that is out of range, and `Rest` at the first byte
-/// left over in a content or in the packet. Else `Memory` only.
+/// Reads a whole packet.
 #[tactic(auto, unfolding(crate::specs::PacketFields::packet_of))]
-pub fn read_packet(alloc: Global, bytes: &[u8]) -> Result<Packet, PacketReadError>
+fn take_whole(alloc: Global, bytes: &[u8]) -> Result<Packet, PacketReadError>
     ensures { GivesPacket result (packet_of bytes.now) }
 {
     if bytes.len() > LONGEST {
@@ -198,4 +213,26 @@ pub fn read_packet(alloc: Global, bytes: &[u8]) -> Result<Packet, PacketReadErro
     let packet = take_packet(alloc, &mut fields)?;
     fields.end()?;
     Ok(packet)
+}
+
+/// Bytes are below 256, which a `u8` says by its type.
+fn are_bytes(bytes: &[u8])
+    ensures { IsBytes bytes.now }
+{}
+
+/// The packet that bytes spell, by the tables of packets and of contents in docs/FORMATS.md.
+///
+/// # Errors
+///
+/// `Refused` exactly where the bytes spell no packet, with the first refusal: `Long` at 98,304 for longer input, and
+/// then of the first field that fails in its order. `Short` stands at the first byte of a field that isn't whole
+/// within the packet or its content, `Magic` at 0, `Version` at 3, `Kind` at a kind byte that no content has or that a
+/// voucher isn't to have here, `Range` at the first byte of a field that is out of range, and `Rest` at the first byte
+/// left over in a content or in the packet. Else `Memory` only.
+pub fn read_packet(alloc: Global, bytes: &[u8]) -> Result<Packet, PacketReadError>
+    ensures value { GivesPacket result (packet_of bytes.now) }
+    ensures spells { IsSpelled bytes.now result }
+{
+    are_bytes(bytes);
+    take_whole(alloc, bytes)
 }

@@ -126,7 +126,11 @@ impl PlaceVote {
         requires place_to { place ≤ 1000000 }
         ensures { result ≡ record { view = view; place = place; digest = digest } }
     {
-        PlaceVote { view, place, digest }
+        PlaceVote {
+            view,
+            place,
+            digest,
+        }
     }
 
     /// The view, 0 to 1,000,000.
@@ -242,7 +246,11 @@ impl ChangeName {
         requires index { index ≤ 9 }
         ensures { result ≡ record { view = view; index = index; digest = digest } }
     {
-        ChangeName { view, index, digest }
+        ChangeName {
+            view,
+            index,
+            digest,
+        }
     }
 
     /// The view, 0 to 1,000,000.
@@ -317,9 +325,7 @@ impl WantedPlace {
 
 impl ExactCopy for WantedPlace {
     fn copy(&self, _alloc: Global) -> Result<WantedPlace, Memory> {
-        Ok(WantedPlace {
-            place: self.place,
-        })
+        Ok(WantedPlace { place: self.place })
     }
 }
 

@@ -22,6 +22,7 @@ pub fn put_sized(text: &mut Writer, bytes: &[u8]) -> Result<(), Memory>
     text.put_bytes(bytes)
 }
 
+/// Writes an event.
 pub fn put_event(alloc: Global, text: &mut Writer, event: &Event) -> Result<(), Memory>
     ensures { OnOk result (text.new ≡ text.old ++ event_text event.now) }
 {
@@ -44,6 +45,7 @@ fn put_reading_value(text: &mut Writer, value: ReadingValue) -> Result<(), Memor
     }
 }
 
+/// Writes a request.
 pub fn put_own_request(text: &mut Writer, request: &OwnRequest) -> Result<(), Memory>
     ensures { OnOk result (text.new ≡ text.old ++ own_request_text request.now) }
 {
@@ -52,6 +54,7 @@ pub fn put_own_request(text: &mut Writer, request: &OwnRequest) -> Result<(), Me
     put_sized(text, request.body())
 }
 
+/// Writes a named reply.
 pub fn put_reply_note(text: &mut Writer, reply: &ReplyNote) -> Result<(), Memory>
     ensures { OnOk result (text.new ≡ text.old ++ reply_note_text reply.now) }
 {
@@ -60,6 +63,7 @@ pub fn put_reply_note(text: &mut Writer, reply: &ReplyNote) -> Result<(), Memory
     text.put_bytes(reply.digest().as_slice())
 }
 
+/// Writes a named call.
 pub fn put_call_name(text: &mut Writer, call: &CallName) -> Result<(), Memory>
     ensures { OnOk result (text.new ≡ text.old ++ call_name_text call.now) }
 {
@@ -67,6 +71,7 @@ pub fn put_call_name(text: &mut Writer, call: &CallName) -> Result<(), Memory>
     text.put_u32(call.number())
 }
 
+/// Writes a reading.
 pub fn put_own_reading(text: &mut Writer, reading: &OwnReading) -> Result<(), Memory>
     ensures { OnOk result (text.new ≡ text.old ++ own_reading_text reading.now) }
 {
@@ -74,6 +79,7 @@ pub fn put_own_reading(text: &mut Writer, reading: &OwnReading) -> Result<(), Me
     put_reading_value(text, reading.value())
 }
 
+/// Writes a proposal.
 pub fn put_proposal(alloc: Global, text: &mut Writer, proposal: &Proposal) -> Result<(), Memory>
     ensures { OnOk result (text.new ≡ text.old ++ proposal_text proposal.now) }
 {
@@ -82,6 +88,7 @@ pub fn put_proposal(alloc: Global, text: &mut Writer, proposal: &Proposal) -> Re
     put_event(alloc, text, proposal.event())
 }
 
+/// Writes a vote.
 pub fn put_place_vote(text: &mut Writer, vote: &PlaceVote) -> Result<(), Memory>
     ensures { OnOk result (text.new ≡ text.old ++ place_vote_text vote.now) }
 {
@@ -90,6 +97,7 @@ pub fn put_place_vote(text: &mut Writer, vote: &PlaceVote) -> Result<(), Memory>
     text.put_bytes(vote.digest().as_slice())
 }
 
+/// Writes a place with its digest.
 pub fn put_place_digest(text: &mut Writer, checkpoint: &PlaceDigest) -> Result<(), Memory>
     ensures { OnOk result (text.new ≡ text.old ++ place_digest_text checkpoint.now) }
 {
@@ -97,6 +105,7 @@ pub fn put_place_digest(text: &mut Writer, checkpoint: &PlaceDigest) -> Result<(
     text.put_bytes(checkpoint.digest().as_slice())
 }
 
+/// Writes a named view change.
 pub fn put_change_name(text: &mut Writer, change: &ChangeName) -> Result<(), Memory>
     ensures { OnOk result (text.new ≡ text.old ++ change_name_text change.now) }
 {
@@ -105,13 +114,19 @@ pub fn put_change_name(text: &mut Writer, change: &ChangeName) -> Result<(), Mem
     text.put_bytes(change.digest().as_slice())
 }
 
+/// Writes a place.
 pub fn put_wanted_place(text: &mut Writer, wanted: &WantedPlace) -> Result<(), Memory>
     ensures { OnOk result (text.new ≡ text.old ++ wanted_place_text wanted.now) }
 {
     text.put_u32(wanted.place())
 }
 
-pub fn put_decided_event(alloc: Global, text: &mut Writer, decided: &DecidedEvent) -> Result<(), Memory>
+/// Writes a place with its event.
+pub fn put_decided_event(
+    alloc: Global,
+    text: &mut Writer,
+    decided: &DecidedEvent,
+) -> Result<(), Memory>
     ensures { OnOk result (text.new ≡ text.old ++ decided_event_text decided.now) }
 {
     text.put_u32(decided.place())?;

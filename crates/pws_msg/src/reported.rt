@@ -61,8 +61,12 @@ impl ExactCopy for LawfulViewChange {
     }
 }
 
+/// Reads a view change.
 #[tactic(auto, unfolding(crate::specs::StatementFields::view_change_at), using(crate::proofs::Ranges::u32_range))]
-pub fn take_view_change(alloc: Global, fields: &mut FieldReader<'_>) -> Result<LawfulViewChange, FieldError>
+pub fn take_view_change(
+    alloc: Global,
+    fields: &mut FieldReader<'_>,
+) -> Result<LawfulViewChange, FieldError>
     ensures { GivesOrMemory (λ c. c) result fields.new (view_change_at fields.old) }
 {
     let view = fields.take_view()?;
@@ -79,6 +83,7 @@ pub fn take_view_change(alloc: Global, fields: &mut FieldReader<'_>) -> Result<L
     }))
 }
 
+/// Writes a view change.
 pub fn put_view_change(text: &mut Writer, lawful: &LawfulViewChange) -> Result<(), Memory>
     ensures { OnOk result (text.new ≡ text.old ++ view_change_text lawful.now) }
 {
@@ -136,8 +141,12 @@ impl ExactCopy for LawfulNewView {
     }
 }
 
+/// Reads a new view.
 #[tactic(auto, unfolding(crate::specs::StatementFields::new_view_at), using(crate::proofs::Ranges::u32_range))]
-pub fn take_new_view(alloc: Global, fields: &mut FieldReader<'_>) -> Result<LawfulNewView, FieldError>
+pub fn take_new_view(
+    alloc: Global,
+    fields: &mut FieldReader<'_>,
+) -> Result<LawfulNewView, FieldError>
     ensures { GivesOrMemory (λ v. v) result fields.new (new_view_at fields.old) }
 {
     let view = fields.take_view()?;
@@ -156,6 +165,7 @@ pub fn take_new_view(alloc: Global, fields: &mut FieldReader<'_>) -> Result<Lawf
     }))
 }
 
+/// Writes a new view.
 pub fn put_new_view(text: &mut Writer, lawful: &LawfulNewView) -> Result<(), Memory>
     ensures { OnOk result (text.new ≡ text.old ++ new_view_text lawful.now) }
 {

@@ -103,7 +103,11 @@ impl ReplyNote {
         requires number_to { number ≤ 1000000 }
         ensures { result ≡ record { caller = caller; number = number; digest = digest } }
     {
-        ReplyNote { caller, number, digest }
+        ReplyNote {
+            caller,
+            number,
+            digest,
+        }
     }
 
     /// The group that called, 0 to 15.

@@ -49,7 +49,11 @@ pub trait Row: Drop {
 }
 
 /// Reads so many rows, one after the other.
-pub fn take_rows<T: Row>(alloc: Global, fields: &mut FieldReader<'_>, count: u8) -> Result<Sequence<T>, FieldError>
+pub fn take_rows<T: Row>(
+    alloc: Global,
+    fields: &mut FieldReader<'_>,
+    count: u8,
+) -> Result<Sequence<T>, FieldError>
     ensures read { GivesOrMemory (λ xs. xs) result fields.new (rows_at T.row_at count fields.old) }
     ensures lawful { IfOk result (λ xs. All T.is_lawful xs) }
     ensures count { IfOk result (λ xs. length xs ≡ count) }
@@ -74,7 +78,12 @@ pub fn put_rows<T: Row>(text: &mut Writer, rows: &[T]) -> Result<(), Memory>
 
 /// Reads rows after their count, which is to be from `low` to `high`.
 #[tactic(auto, unfolding(crate::specs::RowFields::counted_at), using(crate::proofs::Ranges::u8_range))]
-pub fn take_counted<T: Row>(alloc: Global, fields: &mut FieldReader<'_>, low: u8, high: u8) -> Result<Sequence<T>, FieldError>
+pub fn take_counted<T: Row>(
+    alloc: Global,
+    fields: &mut FieldReader<'_>,
+    low: u8,
+    high: u8,
+) -> Result<Sequence<T>, FieldError>
     ensures read { GivesOrMemory (λ xs. xs) result fields.new (counted_at T.row_at low high fields.old) }
     ensures lawful { IfOk result (λ xs. All T.is_lawful xs) }
     ensures some { IfOk result (λ xs. low ≤ length xs) }

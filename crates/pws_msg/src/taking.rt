@@ -40,8 +40,12 @@ fn take_reading_value(fields: &mut FieldReader<'_>) -> Result<ReadingValue, Fiel
     }
 }
 
+/// Reads a request.
 #[tactic(auto, unfolding(crate::specs::StatementFields::own_request_at), using(crate::proofs::Ranges::u8_range, crate::proofs::Ranges::u32_range))]
-pub fn take_own_request(alloc: Global, fields: &mut FieldReader<'_>) -> Result<OwnRequest, FieldError>
+pub fn take_own_request(
+    alloc: Global,
+    fields: &mut FieldReader<'_>,
+) -> Result<OwnRequest, FieldError>
     ensures { GivesOrMemory (λ r. r) result fields.new (own_request_at fields.old) }
 {
     let number = fields.take_number()?;
@@ -50,6 +54,7 @@ pub fn take_own_request(alloc: Global, fields: &mut FieldReader<'_>) -> Result<O
     Ok(OwnRequest::new(number, low, body))
 }
 
+/// Reads a named reply.
 #[tactic(auto, unfolding(crate::specs::StatementFields::reply_note_at), using(crate::proofs::Ranges::u8_range, crate::proofs::Ranges::u32_range))]
 pub fn take_reply_note(fields: &mut FieldReader<'_>) -> Result<ReplyNote, FieldError>
     ensures { GivesOrMemory (λ r. r) result fields.new (reply_note_at fields.old) }
@@ -60,6 +65,7 @@ pub fn take_reply_note(fields: &mut FieldReader<'_>) -> Result<ReplyNote, FieldE
     Ok(ReplyNote::new(caller, number, digest))
 }
 
+/// Reads a named call.
 #[tactic(auto, unfolding(crate::specs::StatementFields::call_name_at), using(crate::proofs::Ranges::u8_range, crate::proofs::Ranges::u32_range))]
 pub fn take_call_name(fields: &mut FieldReader<'_>) -> Result<CallName, FieldError>
     ensures { GivesOrMemory (λ n. n) result fields.new (call_name_at fields.old) }
@@ -69,6 +75,7 @@ pub fn take_call_name(fields: &mut FieldReader<'_>) -> Result<CallName, FieldErr
     Ok(CallName::new(called, number))
 }
 
+/// Reads a reading.
 #[tactic(auto, unfolding(crate::specs::StatementFields::own_reading_at), using(crate::proofs::Ranges::u8_range, crate::proofs::Ranges::u32_range))]
 pub fn take_own_reading(fields: &mut FieldReader<'_>) -> Result<OwnReading, FieldError>
     ensures { GivesOrMemory (λ r. r) result fields.new (own_reading_at fields.old) }
@@ -78,6 +85,7 @@ pub fn take_own_reading(fields: &mut FieldReader<'_>) -> Result<OwnReading, Fiel
     Ok(OwnReading::new(ask, value))
 }
 
+/// Reads a proposal.
 #[tactic(auto, unfolding(crate::specs::StatementFields::proposal_at), using(crate::proofs::Ranges::u8_range, crate::proofs::Ranges::u32_range))]
 pub fn take_proposal(alloc: Global, fields: &mut FieldReader<'_>) -> Result<Proposal, FieldError>
     ensures { GivesOrMemory (λ p. p) result fields.new (proposal_at fields.old) }
@@ -88,6 +96,7 @@ pub fn take_proposal(alloc: Global, fields: &mut FieldReader<'_>) -> Result<Prop
     Ok(Proposal::new(view, place, event))
 }
 
+/// Reads a vote.
 #[tactic(auto, unfolding(crate::specs::StatementFields::place_vote_at), using(crate::proofs::Ranges::u8_range, crate::proofs::Ranges::u32_range))]
 pub fn take_place_vote(fields: &mut FieldReader<'_>) -> Result<PlaceVote, FieldError>
     ensures { GivesOrMemory (λ v. v) result fields.new (place_vote_at fields.old) }
@@ -98,6 +107,7 @@ pub fn take_place_vote(fields: &mut FieldReader<'_>) -> Result<PlaceVote, FieldE
     Ok(PlaceVote::new(view, place, digest))
 }
 
+/// Reads a place with its digest.
 #[tactic(auto, unfolding(crate::specs::StatementFields::place_digest_at), using(crate::proofs::Ranges::u8_range, crate::proofs::Ranges::u32_range))]
 pub fn take_place_digest(fields: &mut FieldReader<'_>) -> Result<PlaceDigest, FieldError>
     ensures { GivesOrMemory (λ d. d) result fields.new (place_digest_at fields.old) }
@@ -107,6 +117,7 @@ pub fn take_place_digest(fields: &mut FieldReader<'_>) -> Result<PlaceDigest, Fi
     Ok(PlaceDigest::new(place, digest))
 }
 
+/// Reads a named view change.
 #[tactic(auto, unfolding(crate::specs::StatementFields::change_name_at), using(crate::proofs::Ranges::u8_range, crate::proofs::Ranges::u32_range))]
 pub fn take_change_name(fields: &mut FieldReader<'_>) -> Result<ChangeName, FieldError>
     ensures { GivesOrMemory (λ n. n) result fields.new (change_name_at fields.old) }
@@ -117,6 +128,7 @@ pub fn take_change_name(fields: &mut FieldReader<'_>) -> Result<ChangeName, Fiel
     Ok(ChangeName::new(view, index, digest))
 }
 
+/// Reads a place.
 #[tactic(auto, unfolding(crate::specs::StatementFields::wanted_place_at), using(crate::proofs::Ranges::u8_range, crate::proofs::Ranges::u32_range))]
 pub fn take_wanted_place(fields: &mut FieldReader<'_>) -> Result<WantedPlace, FieldError>
     ensures { GivesOrMemory (λ w. w) result fields.new (wanted_place_at fields.old) }
@@ -125,8 +137,12 @@ pub fn take_wanted_place(fields: &mut FieldReader<'_>) -> Result<WantedPlace, Fi
     Ok(WantedPlace::new(place))
 }
 
+/// Reads a place with its event.
 #[tactic(auto, unfolding(crate::specs::StatementFields::decided_event_at), using(crate::proofs::Ranges::u8_range, crate::proofs::Ranges::u32_range))]
-pub fn take_decided_event(alloc: Global, fields: &mut FieldReader<'_>) -> Result<DecidedEvent, FieldError>
+pub fn take_decided_event(
+    alloc: Global,
+    fields: &mut FieldReader<'_>,
+) -> Result<DecidedEvent, FieldError>
     ensures { GivesOrMemory (λ d. d) result fields.new (decided_event_at fields.old) }
 {
     let place = fields.take_number()?;

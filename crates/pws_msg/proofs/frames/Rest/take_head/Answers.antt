@@ -36,14 +36,17 @@ returns-then-len-lt-FIELD-clause-rest c =
 pub returns-then-size-eq0-clause-step : goal.returns-then-size-eq0-clause-step
 returns-then-size-eq0-clause-step c =
     let m = head_more _ _ _ _ _ _ c.self.invariant c.self.view_is c.requires.head c.in_ok-extend_from_slice.ensures.items in
-    let s : c.extend_from_slice.new.self.items ≡ u32_text c.size_of-size.result = sym c.as_slice.ensures.value ∙ c.size_of-size.ensures.spelled in
-    (c.size_of-size.result, record {
-      field = c.size_of-size.ensures.small;
-      outside = elim c.then-size-eq0.branch [
-        | then-size-eq0-via-then-size-eq0 w ↦ inl (omega arith)
-        | then-size-eq0-via-else-size-eq0+then-size-gt-LONGEST w ↦ inr (omega arith)
-      ];
-    }, m.1 ∙ s)
+    let s : c.extend_from_slice.new.self.items ≡ u32_text c.size_of-size.result = sym c.as_slice.ensures.value ∙ c.size_of-size.ensures.spelled in (
+      c.size_of-size.result,
+      record {
+        field = c.size_of-size.ensures.small;
+        outside = elim c.then-size-eq0.branch [
+          | then-size-eq0-via-then-size-eq0 w ↦ inl (omega arith)
+          | then-size-eq0-via-else-size-eq0+then-size-gt-LONGEST w ↦ inr (omega arith)
+        ];
+      },
+      m.1 ∙ s,
+    )
 
 pub returns-in-Ok-clause-step : goal.returns-in-Ok-clause-step
 returns-in-Ok-clause-step c =

@@ -1,0 +1,105 @@
+//! Writing packets.
+
+ghost use Rattle.std.specs.Prelude.{◌≡◌, ◌<◌, ◌++◌, [], ◌∷◌, length, IfOk, OnOk};
+ghost use Rattle.std.specs.List.{flat_map};
+ghost use Rattle.pws_base.specs.Texts.{sized_text};
+ghost use Rattle.pws_msg.specs.Contents.{content_text};
+ghost use Rattle.pws_msg.specs.StatementTexts.{counted_text};
+ghost use Rattle.pws_msg.specs.Packets.{sender_text, voucher_text, body_text, magic, packet_text};
+
+use crate::contents::{Content, content_bytes};
+use crate::packets::{Packet, Voucher};
+use crate::putting::put_sized;
+use crate::rows::put_counted;
+use pws_base::memory::Memory;
+use pws_base::shapes::ReplicaId;
+use pws_base::writers::Writer;
+use std::alloc::Global;
+
+/// Writes a sender.
+fn put_sender(text: &mut Writer, sender: ReplicaId) -> Result<(), Memory>
+    ensures { OnOk result (text.new ≡ text.old ++ sender_text sender) }
+{
+    text.put_u8(sender.group)?;
+    text.put_u8(sender.index)
+}
+
+/// Writes a content after its length.
+fn put_sized_content(alloc: Global, text: &mut Writer, content: &Content) -> Result<(), Memory>
+    ensures { OnOk result (text.new ≡ text.old ++ sized_text (content_text content.now)) }
+{
+    content.is_lawful();
+    let bytes = content_bytes(alloc, content)?;
+    put_sized(text, bytes.as_slice())
+}
+
+/// Writes a voucher.
+fn put_voucher(alloc: Global, text: &mut Writer, voucher: &Voucher) -> Result<(), Memory>
+    ensures { OnOk result (text.new ≡ text.old ++ voucher_text voucher.now) }
+{
+    put_sender(text, voucher.sender())?;
+    put_sized_content(alloc, text, voucher.content())?;
+    put_counted(text, voucher.tags())
+}
+
+/// Writes vouchers, one after the other.
+fn put_each_voucher(alloc: Global, text: &mut Writer, vouchers: &[Voucher]) -> Result<(), Memory>
+    ensures { OnOk result (text.new ≡ text.old ++ flat_map voucher_text vouchers.now) }
+{
+    for voucher in vouchers.iter() {
+        put_voucher(alloc, text, voucher)?;
+    }
+    Ok(())
+}
+
+/// Writes vouchers after their count, which fits a byte.
+fn put_vouchers(alloc: Global, text: &mut Writer, vouchers: &[Voucher]) -> Result<(), Memory>
+    requires { length vouchers.now < 256 }
+    ensures { OnOk result (text.new ≡ text.old ++ counted_text voucher_text vouchers.now) }
+{
+    text.put_u8(vouchers.len() as u8)?;
+    put_each_voucher(alloc, text, vouchers)
+}
+
+/// Writes a packet's body, where there is one, after the flag that tells.
+fn put_body(text: &mut Writer, packet: &Packet) -> Result<(), Memory>
+    ensures { OnOk result (text.new ≡ text.old ++ body_text packet.now.body) }
+{
+    match packet.body() {
+        None => text.put_u8(0),
+        Some(body) => {
+            text.put_u8(1)?;
+            put_sized(text, body.as_slice())
+        }
+    }
+}
+
+/// Writes what stands before the content: the letters PWS, the version 1, the sender and the receivers' group.
+fn put_head(text: &mut Writer, packet: &Packet) -> Result<(), Memory>
+    ensures { OnOk result (text.new ≡ text.old ++ (magic ++ (1 ∷ []) ++ sender_text packet.now.sender ++ (packet.now.receiver ∷ []))) }
+{
+    text.put_u8(b'P')?;
+    text.put_u8(b'W')?;
+    text.put_u8(b'S')?;
+    text.put_u8(1)?;
+    put_sender(text, packet.sender())?;
+    text.put_u8(packet.receiver())
+}
+
+/// The bytes that spell a packet.
+///
+/// # Errors
+///
+/// `Memory` only.
+pub fn write_packet(alloc: Global, packet: &Packet) -> Result<Vec<u8>, Memory>
+    ensures { IfOk result (λ bytes. bytes.items ≡ packet_text packet.now) }
+{
+    let vouchers = packet.vouchers();
+    let mut text = Writer::new(alloc);
+    put_head(&mut text, packet)?;
+    put_sized_content(alloc, &mut text, packet.content())?;
+    put_counted(&mut text, packet.tags())?;
+    put_body(&mut text, packet)?;
+    put_vouchers(alloc, &mut text, vouchers)?;
+    Ok(text.into_bytes().into_vec())
+}
