@@ -17,3 +17,4 @@ pub mod Spelling
 pub mod StatementFields
 pub mod StatementTexts
 pub mod Statements
+pub mod Wire

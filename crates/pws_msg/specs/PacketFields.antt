@@ -13,6 +13,7 @@ use Rattle.pws_msg.specs.declared.errors.PacketFault.TheVariants as packet_fault
 use Rattle.pws_msg.specs.declared.errors.PacketError.{PacketError}
 use Rattle.pws_msg.specs.declared.errors.PacketReadError.{PacketReadError}
 use Rattle.pws_msg.specs.declared.errors.PacketReadError.TheVariants as read_error
+use Rattle.pws_msg.specs.Wire.{wire_version, longest_packet, most_tags}
 
 -- a sender: its group, and its index
 unfoldable pub sender_at : Unread → Result (ReplicaId × Unread) FieldFault
@@ -38,7 +39,7 @@ sized_at read u = do
 
 -- at most ten tags after their count
 abbrev pub tags_at : Unread → Result (List (List ℕ) × Unread) FieldFault
-tags_at u = counted_at digest_field 0 10 u
+tags_at u = counted_at digest_field 0 most_tags u
 
 -- a voucher whose content is to be of this kind
 unfoldable pub voucher_at : ℕ → Unread → Result (VoucherFields × Unread) FieldFault
@@ -87,13 +88,13 @@ magic_at u = onward (in_packet (bytes_field 3 u)) (λ m. if is_magic m.0 then Ok
 
 -- the version, 1
 unfoldable pub version_at : Unread → Result Unread PacketError
-version_at u = onward (in_packet (u8_field u)) (λ v. if v.0 == 1 then Ok v.1 else Err (record { kind = packet_fault.Version; at = u.at }))
+version_at u = onward (in_packet (u8_field u)) (λ v. if v.0 == wire_version then Ok v.1 else Err (record { kind = packet_fault.Version; at = u.at }))
 
 -- the packet that the bytes spell, or the first refusal: a text that is too long comes first, and then each field in
 -- its order
 unfoldable pub packet_of : List ℕ → Result PacketFields PacketError
 packet_of bytes =
-    if nat_lt 98304 (length bytes) then Err (record { kind = packet_fault.Long; at = 98304 })
+    if nat_lt longest_packet (length bytes) then Err (record { kind = packet_fault.Long; at = longest_packet })
     else onward (magic_at (unread bytes)) (λ m. onward (version_at m) (λ v. in_packet (packet_at v >>= ended)))
 
 -- the answer is the packet or its refusal, or the want of memory

@@ -9,6 +9,7 @@ use Rattle.pws_msg.specs.Contents.{SpellsContent, IsContent, kind_of, content_te
 use Rattle.pws_msg.specs.declared.contents.Content.{Content}
 use Rattle.pws_msg.specs.declared.rules.AttachmentRule.{AttachmentRule}
 use Rattle.pws_msg.specs.Rules.{rule_of}
+use Rattle.pws_msg.specs.Wire.{wire_version, most_tags}
 
 -- a replica that says something, what it says, and a tag for each of those that hear it
 pub record VoucherFields : Type 0 where
@@ -32,7 +33,7 @@ pub record IsSender (s : ReplicaId) : Type 0 where
 
 -- at most ten tags of 32 bytes
 pub record IsTags (tags : List (List ℕ)) : Type 0 where
-  pub few : length tags ≤ 10
+  pub few : length tags ≤ most_tags
   pub each : All IsDigest tags
 
 pub record IsVoucher (v : VoucherFields) : Type 0 where
@@ -92,4 +93,4 @@ magic = 80 ∷ 87 ∷ 83 ∷ []
 -- the one spelling of a packet: PWS, the version 1, the sender, the receivers' group, the content after its length,
 -- the tags, the body and the vouchers
 abbrev pub packet_text : PacketFields → List ℕ
-packet_text p = magic ++ (1 ∷ []) ++ sender_text p.sender ++ (p.receiver ∷ []) ++ sized_text (content_text p.content) ++ tags_text p.tags ++ body_text p.body ++ counted_text voucher_text p.vouchers
+packet_text p = magic ++ (wire_version ∷ []) ++ sender_text p.sender ++ (p.receiver ∷ []) ++ sized_text (content_text p.content) ++ tags_text p.tags ++ body_text p.body ++ counted_text voucher_text p.vouchers

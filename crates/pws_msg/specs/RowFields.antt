@@ -7,6 +7,7 @@ use Rattle.pws_msg.specs.declared.changes.PRow.{PRow}
 use Rattle.pws_msg.specs.declared.changes.Seen.{Seen}
 use Rattle.pws_msg.specs.declared.changes.QRow.{QRow}
 use Rattle.pws_msg.specs.declared.changes.Named.{Named}
+use Rattle.pws_msg.specs.Wire.{most_digests}
 
 -- so many rows, one after the other, each read by row_at
 unfoldable pub rows_at : {A : Type 0} → (Unread → Result (A × Unread) FieldFault) → ℕ → Unread → Result (List A × Unread) FieldFault
@@ -44,7 +45,7 @@ seen_at u = do
 unfoldable pub q_row_at : Unread → Result (QRow × Unread) FieldFault
 q_row_at u = do
   place ← number_field u
-  digests ← counted_at seen_at 1 16 place.1
+  digests ← counted_at seen_at 1 most_digests place.1
   Ok (record { place = place.0; digests = digests.0 }, digests.1)
 
 unfoldable pub named_at : Unread → Result (Named × Unread) FieldFault

@@ -7,6 +7,7 @@ use Rattle.pws_msg.specs.declared.changes.PRow.{PRow}
 use Rattle.pws_msg.specs.declared.changes.Seen.{Seen}
 use Rattle.pws_msg.specs.declared.changes.QRow.{QRow}
 use Rattle.pws_msg.specs.declared.changes.Named.{Named}
+use Rattle.pws_msg.specs.Wire.{most_digests}
 
 -- a digest, or a tag, has 32 bytes
 abbrev pub IsDigest : List ℕ → Type 0
@@ -47,7 +48,7 @@ pub record IsQRow (r : QRow) : Type 0 where
   pub place_from : 1 ≤ r.place
   pub place_to : r.place ≤ 1000000
   pub some : 1 ≤ length r.digests
-  pub few : length r.digests ≤ 16
+  pub few : length r.digests ≤ most_digests
   pub digests : All IsSeen r.digests
 
 abbrev pub q_row_text : QRow → List ℕ

@@ -9,6 +9,7 @@ use Rattle.pws_msg.specs.declared.readings.ReadingValue.{ReadingValue}
 use Rattle.pws_msg.specs.declared.readings.ReadingValue.TheVariants as value
 use Rattle.pws_msg.specs.RowFields.{counted_at, checkpoint_at, p_row_at, q_row_at, named_at}
 use Rattle.pws_msg.specs.Statements.{OwnRequestFields, ReplyNoteFields, CallNameFields, OwnReadingFields, ProposalFields, PlaceVoteFields, PlaceDigestFields, ChangeNameFields, WantedPlaceFields, DecidedEventFields}
+use Rattle.pws_msg.specs.Wire.{most_checkpoints, most_rows, most_named, most_chosen}
 
 -- a time or a share, by its sort
 unfoldable pub time_at : Unread → Result (ReadingValue × Unread) FieldFault
@@ -94,16 +95,16 @@ unfoldable pub view_change_at : Unread → Result (ViewChange × Unread) FieldFa
 view_change_at u = do
   view ← view_field u
   low ← view_field view.1
-  checkpoints ← counted_at checkpoint_at 1 3 low.1
-  prepared ← counted_at p_row_at 0 32 checkpoints.1
-  pre_prepared ← counted_at q_row_at 0 32 prepared.1
+  checkpoints ← counted_at checkpoint_at 1 most_checkpoints low.1
+  prepared ← counted_at p_row_at 0 most_rows checkpoints.1
+  pre_prepared ← counted_at q_row_at 0 most_rows prepared.1
   Ok (record { view = view.0; low = low.0; checkpoints = checkpoints.0; prepared = prepared.0; pre_prepared = pre_prepared.0 }, pre_prepared.1)
 
 unfoldable pub new_view_at : Unread → Result (NewView × Unread) FieldFault
 new_view_at u = do
   view ← view_field u
-  named ← counted_at named_at 1 10 view.1
+  named ← counted_at named_at 1 most_named view.1
   place ← view_field named.1
   digest ← digest_field place.1
-  chosen ← counted_at digest_field 0 32 digest.1
+  chosen ← counted_at digest_field 0 most_chosen digest.1
   Ok (record { view = view.0; named = named.0; choice = record { place = place.0; digest = digest.0; chosen = chosen.0 } }, chosen.1)

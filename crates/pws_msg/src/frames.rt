@@ -1,5 +1,6 @@
 //! Frames: packets on a stream of bytes, each after its length.
 
+use crate::wire::LONGEST;
 use pws_base::bytes::Bytes;
 use pws_base::lists::Sequence;
 use pws_base::memory::Memory;
@@ -7,9 +8,6 @@ use std::alloc::Global;
 use std::marker::Model;
 use std::{fmt, mem};
 use thiserror::Error;
-
-/// The most bytes that a frame holds.
-const LONGEST: usize = 98_304;
 
 /// How many bytes the length of a frame has.
 const FIELD: usize = 4;

@@ -5,6 +5,7 @@
 //!   and `reported`; `changes` has the records of a view change, and `rows` reads and writes their lists.
 //! - `packets` has the packet and the vouchers in it, `rules` what each kind has attached. `packet_reading` reads a
 //!   packet, or tells what is wrong and where (`errors`); `packet_writing` writes it.
+//! - `wire` has the numbers of the wire's version 1.
 //! - `laws` states what follows from the formats alone.
 //!
 //! The one contract: a packet is read exactly where the bytes spell it, a packet has one spelling, and a stream is read
@@ -28,3 +29,4 @@ pub mod requests;
 pub mod rows;
 pub mod rules;
 mod taking;
+pub mod wire;

@@ -17,14 +17,12 @@ use crate::errors::{PacketError, PacketFault, PacketReadError};
 use crate::packets::{Packet, Voucher};
 use crate::rows::take_counted;
 use crate::rules::{AttachmentRule, attachment_rule};
+use crate::wire::{LONGEST, MOST_TAGS, VERSION};
 use pws_base::bytes::Bytes;
 use pws_base::fields::{FieldError, FieldFault, FieldReader};
 use pws_base::lists::Sequence;
 use pws_base::shapes::{ReplicaId, Tag};
 use std::alloc::Global;
-
-/// The most bytes that a packet has.
-const LONGEST: usize = 98_304;
 
 /// Reads a sender.
 #[tactic(auto, unfolding(crate::specs::PacketFields::sender_at), using(crate::proofs::Ranges::u8_range))]
@@ -76,7 +74,7 @@ fn take_tags(alloc: Global, fields: &mut FieldReader<'_>) -> Result<Sequence<Tag
     ensures read { GivesOrMemory (λ tags. tags) result fields.new (tags_at fields.old) }
     ensures lawful { IfOk result (λ tags. IsTags tags) }
 {
-    take_counted(alloc, fields, 0, 10)
+    take_counted(alloc, fields, 0, MOST_TAGS)
 }
 
 /// Reads a voucher, whose content is to be of this kind.
@@ -172,7 +170,7 @@ fn take_version(fields: &mut FieldReader<'_>) -> Result<(), PacketError>
 {
     let at = fields.at();
     let version = fields.take_u8()?;
-    if version == 1 {
+    if version == VERSION {
         return Ok(());
     }
     Err(PacketError {

@@ -5,12 +5,14 @@ ghost use Rattle.std.specs.List.{flat_map};
 ghost use Rattle.pws_base.specs.Texts.{sized_text};
 ghost use Rattle.pws_msg.specs.Contents.{content_text};
 ghost use Rattle.pws_msg.specs.StatementTexts.{counted_text};
+ghost use Rattle.pws_msg.specs.Wire.{wire_version};
 ghost use Rattle.pws_msg.specs.Packets.{sender_text, voucher_text, body_text, magic, packet_text};
 
 use crate::contents::{Content, content_bytes};
 use crate::packets::{Packet, Voucher};
 use crate::putting::put_sized;
 use crate::rows::put_counted;
+use crate::wire::VERSION;
 use pws_base::memory::Memory;
 use pws_base::shapes::ReplicaId;
 use pws_base::writers::Writer;
@@ -76,12 +78,12 @@ fn put_body(text: &mut Writer, packet: &Packet) -> Result<(), Memory>
 
 /// Writes what stands before the content: the letters PWS, the version 1, the sender and the receivers' group.
 fn put_head(text: &mut Writer, packet: &Packet) -> Result<(), Memory>
-    ensures { OnOk result (text.new ≡ text.old ++ (magic ++ (1 ∷ []) ++ sender_text packet.now.sender ++ (packet.now.receiver ∷ []))) }
+    ensures { OnOk result (text.new ≡ text.old ++ (magic ++ (wire_version ∷ []) ++ sender_text packet.now.sender ++ (packet.now.receiver ∷ []))) }
 {
     text.put_u8(b'P')?;
     text.put_u8(b'W')?;
     text.put_u8(b'S')?;
-    text.put_u8(1)?;
+    text.put_u8(VERSION)?;
     put_sender(text, packet.sender())?;
     text.put_u8(packet.receiver())
 }

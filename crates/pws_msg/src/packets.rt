@@ -115,6 +115,17 @@ pub struct Packet {
     vouchers: Sequence<Voucher>,
 }
 
+/// The parts of a packet, as its own.
+#[derive(Drop)]
+pub struct PacketParts {
+    pub sender: ReplicaId,
+    pub receiver: GroupId,
+    pub content: Content,
+    pub tags: Sequence<Tag>,
+    pub body: Option<Bytes>,
+    pub vouchers: Sequence<Voucher>,
+}
+
 impl Model for Packet {
     ghost use Rattle.pws_msg.specs.Packets.{PacketFields, IsPacket};
 
@@ -201,6 +212,29 @@ impl Packet {
         ensures lawful { IsPacket self.now }
     {
         self.vouchers.as_slice()
+    }
+
+    /// Its parts, which aren't copied.
+    pub fn into_parts(self) -> PacketParts
+        ensures value { result ≡ record { sender = self.sender; receiver = self.receiver; content = self.content; tags = self.tags; body = self.body; vouchers = self.vouchers } }
+        ensures lawful { IsPacket self }
+    {
+        let Packet {
+            sender,
+            receiver,
+            content,
+            tags,
+            body,
+            vouchers,
+        } = self;
+        PacketParts {
+            sender,
+            receiver,
+            content,
+            tags,
+            body,
+            vouchers,
+        }
     }
 }
 

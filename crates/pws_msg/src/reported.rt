@@ -8,6 +8,7 @@ ghost use Rattle.pws_msg.specs.StatementTexts.{view_change_text, new_view_text};
 
 use crate::changes::{Choice, NewView, ViewChange};
 use crate::rows::{put_counted, take_counted};
+use crate::wire::{MOST_CHECKPOINTS, MOST_CHOSEN, MOST_NAMED, MOST_ROWS};
 use pws_base::fields::{FieldError, FieldReader};
 use pws_base::lists::ExactCopy;
 use pws_base::memory::Memory;
@@ -71,9 +72,9 @@ pub fn take_view_change(
 {
     let view = fields.take_view()?;
     let low = fields.take_view()?;
-    let checkpoints = take_counted(alloc, fields, 1, 3)?;
-    let prepared = take_counted(alloc, fields, 0, 32)?;
-    let pre_prepared = take_counted(alloc, fields, 0, 32)?;
+    let checkpoints = take_counted(alloc, fields, 1, MOST_CHECKPOINTS)?;
+    let prepared = take_counted(alloc, fields, 0, MOST_ROWS)?;
+    let pre_prepared = take_counted(alloc, fields, 0, MOST_ROWS)?;
     Ok(LawfulViewChange::new(ViewChange {
         view,
         low,
@@ -150,10 +151,10 @@ pub fn take_new_view(
     ensures { GivesOrMemory (λ v. v) result fields.new (new_view_at fields.old) }
 {
     let view = fields.take_view()?;
-    let named = take_counted(alloc, fields, 1, 10)?;
+    let named = take_counted(alloc, fields, 1, MOST_NAMED)?;
     let place = fields.take_view()?;
     let digest = fields.take_digest()?;
-    let chosen = take_counted(alloc, fields, 0, 32)?;
+    let chosen = take_counted(alloc, fields, 0, MOST_CHOSEN)?;
     Ok(LawfulNewView::new(NewView {
         view,
         named,

@@ -7,6 +7,7 @@ ghost use Rattle.pws_msg.specs.RowFields.{rows_at, counted_at};
 ghost use Rattle.pws_msg.specs.StatementTexts.{counted_text};
 
 use crate::changes::{Checkpoint, Named, PRow, QRow, Seen};
+use crate::wire::MOST_DIGESTS;
 use pws_base::fields::{FieldError, FieldReader};
 use pws_base::lists::Sequence;
 use pws_base::memory::Memory;
@@ -210,7 +211,7 @@ impl Row for QRow {
     #[tactic(auto, unfolding(crate::specs::RowFields::q_row_at), using(crate::proofs::Ranges::u32_range))]
     fn take(alloc: Global, fields: &mut FieldReader<'_>) -> Result<QRow, FieldError> {
         let place = fields.take_number()?;
-        let digests = take_counted(alloc, fields, 1, 16)?;
+        let digests = take_counted(alloc, fields, 1, MOST_DIGESTS)?;
         Ok(QRow { place, digests })
     }
 

@@ -4,6 +4,7 @@ ghost use Rattle.std.specs.Prelude.{◌≡◌, ◌≤◌};
 ghost use Rattle.pws_msg.specs.Rules.{rule_of};
 
 use crate::contents::Content;
+use crate::wire::MOST_VOUCHERS;
 
 /// What a packet has attached: how many bodies, the kind of its vouchers, and how many vouchers at least and at most.
 #[derive(Clone, Copy, Debug, PartialEq, Eq)]
@@ -22,7 +23,7 @@ pub fn attachment_rule(content: &Content) -> AttachmentRule
     ensures most { result.most ≤ 10 }
 {
     let (bodies, kind, least, most) = match content {
-        Content::Reply(_) => (1, 2, 0, 10),
+        Content::Reply(_) => (1, 2, 0, MOST_VOUCHERS),
         Content::Part(_) => (0, 2, 1, 1),
         Content::Relay(_) => (0, 10, 1, 1),
         _ => (0, 0, 0, 0),

@@ -52,6 +52,8 @@ fn a_packet_is_made(rt: HostRuntime) -> Result<(), Fail> {
         "50575301010000+00000026+{content}+00+01+00000002+6869+01+0101+00000026+{content}+00"
     )?;
     assert!(rt; bytes.as_slice() == bytes_of(alloc, wanted.as_str())?.as_slice());
+    let parts = packet.into_parts();
+    assert_eq!(rt; parts.vouchers.len(), 1);
     let request = OwnRequest::new(1, 1, Bytes::from_slice(alloc, b"hi")?);
     let bytes = content_bytes(alloc, &Content::Request(request))?;
     assert!(rt; bytes.as_slice() == bytes_of(alloc, "010000000100000001000000026869")?.as_slice());
