@@ -12,3 +12,4 @@ pub mod Rising
 pub mod Answered
 pub mod ReadBack
 pub mod WriteBack
+pub mod Ranked
