@@ -5,7 +5,7 @@ use Rattle.std.proofs.lemmas.List.{length-set, get_or-replicate}
 use Rattle.std.proofs.lemmas.Bool.Decides.{nat_tests}
 use Rattle.pws_event.specs.Effects.{is_other}
 use Rattle.pws_event.specs.Histories.{nothing}
-use Rattle.pws_event.specs.Counters.{Counters, IsCounters, HasTaken, counter_of, slot_of, is_waiting, least_waiting, CanCall}
+use Rattle.pws_event.specs.Counters.{Counters, IsCounters, HasTaken, counter_of, slot_of, is_waiting, CanCall}
 use Rattle.pws_event.proofs.Latest.{counter_written, written}
 use Rattle.pws_event.proofs.Waiting.{zero_slot, after_call as slots_after_call}
 use Rattle.pws_event.proofs.Outgoing.{least_below}

@@ -1,9 +1,9 @@
 -- Among readings there is one at each rank, and all that stand at it are equal.
-use Rattle.std.proofs.Common.{◌≡◌, ◌↔◌, ◌⊎◌, inl, inr, ℕ, zero, suc, ◌+◌, ◌-◌, ◌<◌, ◌≤◌, ◌&&◌, min, Bool, true, false, List, [], ◌∷◌, length, slice_get, find, count_by, Option, Some, None, IsTrue, refl, sym, ◌∙◌, ap, arith, cond, nat_lt, nat_le}
+use Rattle.std.proofs.Common.{◌≡◌, inl, inr, ℕ, zero, suc, ◌+◌, ◌<◌, ◌≤◌, ◌&&◌, Bool, true, false, List, [], ◌∷◌, length, slice_get, find, count_by, Option, Some, refl, sym, ◌∙◌, ap, arith, cond, nat_lt, nat_le}
 use Rattle.std.specs.Option.{option_map_or}
 use Rattle.std.proofs.lemmas.Bool.{cases_lt, cases_eq, cases_order}
 use Rattle.std.proofs.lemmas.Bool.Decides.{nat_tests}
-use Rattle.std.proofs.lemmas.List.Sums.{sum_by-cons, count_by-le-length}
+use Rattle.std.proofs.lemmas.List.Sums.{sum_by-cons}
 use Rattle.pws_event.specs.declared.readings.Reading.{Reading}
 use Rattle.pws_event.specs.Times.{rank_of, is_ranked, agreed_time}
 use Rattle.pws_event.specs.Laws.{AgreedTimeIsRanked}
