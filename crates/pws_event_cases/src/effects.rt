@@ -426,9 +426,8 @@ fn readers_of(alloc: Global, effect: &Effect, groups: u8) -> Result<String, Fail
 }
 
 /// The group and the layout of a case.
-fn begin(rt: &impl Abort, alloc: Global, group: &str, words: &[&str]) -> Result<Effect, Fail> {
+fn begin(rt: &impl Abort, alloc: Global, me: u8, words: &[&str]) -> Result<Effect, Fail> {
     let layout = layout_of(alloc, words)?;
-    let me = group.parse::<u8>()?;
     assert!(rt; me < layout.groups());
     Ok(Effect::new(me, &layout))
 }
@@ -438,16 +437,16 @@ fn steps_and_readers(rt: HostRuntime) -> Result<(), Fail> {
     let alloc = rt.alloc();
     let single = GroupShape::new(0)?;
     let mut effect = Effect::new(0, &Layout::new(&[single])?);
-    let (mut group, mut groups, mut cases) = ("0", 1u8, 0u32);
+    let (mut me, mut groups, mut cases) = (0u8, 1u8, 0u32);
     for line in CASES.lines() {
         let words: Vec<&str> = line.split(' ').collect(alloc)?;
         assert!(rt; words.len() >= 2);
         match words[0] {
             "case" => cases = cases.saturating_add(1),
-            "group" => group = words[1],
+            "group" => me = words[1].parse::<u8>()?,
             "layout" => {
                 groups = layout_of(alloc, &words)?.groups();
-                effect = begin(&rt, alloc, group, &words)?;
+                effect = begin(&rt, alloc, me, &words)?;
             }
             "readers" => {
                 let readers = readers_of(alloc, &effect.copy(alloc)?, groups)?;
