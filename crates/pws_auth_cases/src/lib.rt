@@ -6,8 +6,10 @@
 mod tests {
     use hex::FromHex;
     use pws_auth::codes::hmac;
+    use pws_auth::pairs::Pair;
     use pws_auth::tables::{Key, KeyTable, KeysError};
     use pws_base::lists::ExactCopy;
+    use pws_base::memory::Memory;
     use pws_base::shapes::{GroupShape, Layout, ReplicaId, Tag};
     use sha2::{Digest, Sha256};
     use std::alloc::Global;
@@ -233,6 +235,32 @@ mod tests {
             count = count.saturating_add(1);
         }
         assert_eq!(rt; count, 45);
+        Ok(())
+    }
+
+    /// The greatest table there is: 16 groups of 10 replicas. The tag is that of another implementation.
+    #[test]
+    fn sixteen_groups_of_ten(rt: HostRuntime) -> Result<(), Fail> {
+        let alloc = rt.alloc();
+        let table = KeyTable::from_seed(alloc, &layout_of(&[3; 16])?, &[0; 32])?;
+        let sender = replica_of("0.0")?;
+        assert!(rt; table.can_seal(sender, 15));
+        let sealed = table.seal(alloc, sender, b"hi", 15)?;
+        let tags = sealed.as_slice();
+        assert_eq!(rt; tags.len(), 10);
+        let wanted = array_of("4efb10591e85627c4c17b97f5222621353d1a92973ebf86e0f22d2307ada4672")?;
+        assert!(rt; tags[9] == wanted);
+        assert!(rt; table.check(sender, replica_of("15.9")?, b"hi", &tags[9]));
+        assert!(rt; !table.check(sender, replica_of("15.8")?, b"hi", &tags[9]));
+        Ok(())
+    }
+
+    #[test]
+    fn pairs_and_errors(rt: HostRuntime) -> Result<(), Fail> {
+        let (lesser, greater) = (replica_of("1.2")?, replica_of("2.0")?);
+        assert_eq!(rt; Pair::of(lesser, greater), Pair { lesser, greater });
+        assert_eq!(rt; Pair::of(greater, lesser), Pair { lesser, greater });
+        assert_eq!(rt; KeysError::from(Memory), KeysError::Memory);
         Ok(())
     }
 }

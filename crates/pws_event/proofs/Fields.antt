@@ -30,7 +30,7 @@ low_end low high n h = grind (arith, nat_tests)
 high_end : (low high n : ℕ) → (nat_le low n && nat_le n high) ≡ true → n ≤ high
 high_end low high n h = grind (arith, nat_tests)
 
-enough : (k : ℕ) (xs : List ℕ) → nat_lt (length xs) k ≡ false → k ≤ length xs
+pub enough : (k : ℕ) (xs : List ℕ) → nat_lt (length xs) k ≡ false → k ≤ length xs
 enough k xs h = grind (arith, nat_tests)
 
 -- a number within a range

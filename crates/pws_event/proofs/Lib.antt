@@ -10,3 +10,6 @@ pub mod Outgoing
 pub mod Fields
 pub mod Rising
 pub mod Answered
+pub mod ReadBack
+pub mod WriteBack
+pub mod Ranked

@@ -5,7 +5,7 @@ use Rattle.std.proofs.lemmas.List.{length-set, get_or-replicate}
 use Rattle.std.proofs.lemmas.Bool.Decides.{nat_tests}
 use Rattle.pws_event.specs.Effects.{is_other}
 use Rattle.pws_event.specs.Histories.{nothing}
-use Rattle.pws_event.specs.Counters.{Counters, IsCounters, HasTaken, counter_of, slot_of, is_waiting, least_waiting}
+use Rattle.pws_event.specs.Counters.{Counters, IsCounters, HasTaken, counter_of, slot_of, is_waiting, CanCall}
 use Rattle.pws_event.proofs.Latest.{counter_written, written}
 use Rattle.pws_event.proofs.Waiting.{zero_slot, after_call as slots_after_call}
 use Rattle.pws_event.proofs.Outgoing.{least_below}
@@ -89,8 +89,12 @@ few_by numbers called g number k small l true e = let at = written numbers calle
 few_by numbers called g number k small l false e = let at = written numbers called g number k in let own = ap (λ b. cond b number (get_or numbers g 0)) e in omega (arith, at, own, l)
 
 -- one more call
-pub call_kept : (c : Counters) (called number : ℕ) → IsCounters c → is_other c.me c.layout called ≡ true → number ≡ counter_of c.called called 0 + 1 → number < least_waiting c called + 16 → number ≤ 1000000 → IsCounters (record c { called = set c.called called number; waiting = set c.waiting (slot_of called number) number })
-call_kept c called number s o next room small =
+pub call_kept : (c : Counters) (called number : ℕ) → IsCounters c → CanCall c called number → IsCounters (record c { called = set c.called called number; waiting = set c.waiting (slot_of called number) number })
+call_kept c called number s can =
+    let o = can.other in
+    let next = can.next in
+    let room = can.room in
+    let small = can.small in
     let k : called < 16 = other_small c.me c.layout called o s.groups in
     record {
       callers = s.callers;

@@ -52,14 +52,14 @@ none_left item_at index xs least u = ap (λ ys. Ok (ys, u)) (append-nil xs)
 pub done : {A : Type 0} (item_at : ℕ → Unread → Result (A × Unread) FieldFault) (index : A → ℕ) (xs : List A) (n i least : ℕ) (u : Unread) → n - i ≡ 0 → rest_at item_at index xs (n - i) least u ≡ Ok (xs, u)
 done item_at index xs n i least u e = ap (λ m. rest_at item_at index xs m least u) e ∙ none_left item_at index xs least u
 
-rising_by : {A : Type 0} (item_at : ℕ → Unread → Result (A × Unread) FieldFault) (index : A → ℕ) (n least : ℕ) (u : Unread) (y : List A × Unread) → rising_at item_at index (suc n) least u ≡ Ok y → (x : A × Unread) × (more : List A × Unread) × (item_at least u ≡ Ok x) × (rising_at item_at index n (index x.0 + 1) x.1 ≡ Ok more) × (y ≡ (x.0 ∷ more.0, more.1))
+pub rising_by : {A : Type 0} (item_at : ℕ → Unread → Result (A × Unread) FieldFault) (index : A → ℕ) (n least : ℕ) (u : Unread) (y : List A × Unread) → rising_at item_at index (suc n) least u ≡ Ok y → (x : A × Unread) × (more : List A × Unread) × (item_at least u ≡ Ok x) × (rising_at item_at index n (index x.0 + 1) x.1 ≡ Ok more) × (y ≡ (x.0 ∷ more.0, more.1))
 unfolding rising_at
 rising_by item_at index n least u y h =
     let first = bind_ok (item_at least u) (λ first. rising_at item_at index n (index first.0 + 1) first.1 >>= (λ more. Ok (first.0 ∷ more.0, more.1))) y h in
     let rest = bind_ok (rising_at item_at index n (index first.0.0 + 1) first.0.1) (λ more. Ok (first.0.0 ∷ more.0, more.1)) y first.2 in
     (first.0, rest.0, first.1, rest.1, cc)
 
-none_by : {A : Type 0} (item_at : ℕ → Unread → Result (A × Unread) FieldFault) (index : A → ℕ) (least : ℕ) (u : Unread) (y : List A × Unread) → rising_at item_at index 0 least u ≡ Ok y → y ≡ ([], u)
+pub none_by : {A : Type 0} (item_at : ℕ → Unread → Result (A × Unread) FieldFault) (index : A → ℕ) (least : ℕ) (u : Unread) (y : List A × Unread) → rising_at item_at index 0 least u ≡ Ok y → y ≡ ([], u)
 unfolding rising_at
 none_by item_at index least u y h = cc
 

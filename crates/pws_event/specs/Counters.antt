@@ -1,5 +1,5 @@
 -- The counters that tell which events take effect; this project's own.
-use Rattle.std.specs.Prelude.{◌≡◌, ℕ, ◌+◌, ◌-◌, ◌*◌, ◌%◌, ◌<◌, ◌≤◌, ◌==◌, ◌&&◌, not, max, Bool, true, false, nat_lt, if◌then◌else◌, List, length, slice_get, slice_index, slice_set, find, Option, Some, None}
+use Rattle.std.specs.Prelude.{◌≡◌, ℕ, ◌+◌, ◌-◌, ◌*◌, ◌%◌, ◌<◌, ◌≤◌, ◌==◌, ◌&&◌, not, max, Bool, true, false, IsTrue, nat_lt, if◌then◌else◌, List, length, slice_get, slice_index, slice_set, find, Option, Some, None}
 use Rattle.std.specs.List.{range_with_len}
 use Rattle.std.specs.Option.{option_map_or, unwrap_or}
 use Rattle.pws_event.specs.Requests.{RequestFields}
@@ -140,6 +140,14 @@ would_effect c (event.Reply r) = is_waiting c.waiting r.called r.number
 would_effect c (event.Abort a) = is_waiting c.waiting a.called a.number
 would_effect c (event.Clock r) = would_answer c r.ask sort.Clock
 would_effect c (event.Random r) = would_answer c r.ask sort.Random
+
+-- a call may be noted: the called group is another of the layout, the number is the next, and no more than sixteen
+-- numbers from the least that waits on are noted
+pub record CanCall (c : Counters) (called number : ℕ) : Type 0 where
+  pub other : IsTrue (is_other c.me c.layout called)
+  pub next : number ≡ counter_of c.called called 0 + 1
+  pub room : number < least_waiting c called + 16
+  pub small : number ≤ 1000000
 
 -- the counters after a call
 abbrev pub after_call : Counters → ℕ → ℕ → Counters

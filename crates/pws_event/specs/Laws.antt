@@ -1,7 +1,10 @@
--- What follows from the rule of effects alone; this project's own.
-use Rattle.std.specs.Prelude.{◌≡◌, ℕ, ◌-◌, List, ◌++◌, take, Some, IsTrue}
+-- What follows from the rules of effects and of the agreed time alone; this project's own.
+use Rattle.std.specs.Prelude.{◌≡◌, ◌↔◌, ℕ, ◌-◌, ◌≤◌, List, [], ◌∷◌, ◌++◌, length, take, slice_get, Some, IsTrue}
 use Rattle.pws_event.specs.Requests.{RequestFields}
 use Rattle.pws_event.specs.Effects.{Acts, takes_effect, effects}
+use Rattle.pws_event.specs.Times.{rank_of, is_ranked, agreed_time}
+use Rattle.pws_event.specs.Histories.{Step, after_step, past_of}
+use Rattle.pws_event.specs.declared.readings.Reading.{Reading}
 use Rattle.pws_event.specs.Lists.{PlacedEvent, event_at, effects_in}
 use Rattle.pws_event.specs.declared.events.Event.{Event}
 use Rattle.pws_event.specs.declared.events.Event.TheVariants as event
@@ -22,3 +25,11 @@ TakesEffectOnce me layout acts places = (p q : ℕ) (r s : RequestFields) → Ta
 -- so it is in every list, whatever the service calls and asks
 abbrev pub EffectsAreOnce : Type 0
 EffectsAreOnce = (me : ℕ) (layout : List ℕ) (acts : List Event → Acts) (places : List PlacedEvent) → TakesEffectOnce me layout acts places
+
+-- what a history comes to after one more step is what it came to, and the step
+abbrev pub HistoriesGrow : Type 0
+HistoriesGrow = (me : ℕ) (layout : List ℕ) (history : List Step) (step : Step) → past_of me layout (history ++ step ∷ []) ≡ after_step me layout (past_of me layout history) step
+
+-- where there are readings, the agreed time is the one time at its rank, and is one of them
+abbrev pub AgreedTimeIsRanked : Type 0
+AgreedTimeIsRanked = (f : ℕ) (readings : List Reading) → 1 ≤ length readings → ((time : ℕ) → IsTrue (is_ranked (rank_of f readings) readings time) ↔ (time ≡ agreed_time f readings)) × ((place : ℕ) × (r : Reading) × (slice_get readings place ≡ Some r) × (agreed_time f readings ≡ r.ms))

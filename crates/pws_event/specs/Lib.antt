@@ -9,4 +9,5 @@ pub mod Lists
 pub mod Readings
 pub mod Requests
 pub mod Slots
+pub mod TextLaws
 pub mod Times

@@ -3,7 +3,7 @@ use Rattle.std.specs.Prelude.{◌≡◌, ℕ, ◌+◌, ◌<◌, ◌≤◌, ◌^�
 use Rattle.pws_event.specs.declared.readings.Reading.{Reading}
 use Rattle.pws_event.specs.declared.readings.Share.{Share}
 
--- how many readings or shares there may be, those of f + 1 up to 2f + 1 replicas: 1, 3, 5 or 7
+-- how many readings or shares there may be, one of each replica of a quorum: 1, 3, 5 or 7
 abbrev pub is_count : ℕ → Bool
 is_count n = n == 1 || n == 3 || n == 5 || n == 7
 

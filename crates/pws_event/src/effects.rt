@@ -49,7 +49,7 @@ impl Model for Effect {
     ghost inverse = { λ c. record { me = c.me; layout = c.layout; last = c.last; low = c.low; called = c.called; waiting = c.waiting; answered = c.answered; ask = c.ask; clock = c.clock } };
 }
 
-ghost use Rattle.std.specs.Prelude.{◌≡◌, ◌<◌, ◌≤◌, ◌+◌, ◌∷◌, [], List, length, slice_index, if◌then◌else◌, None, false, IsTrue};
+ghost use Rattle.std.specs.Prelude.{◌≡◌, ◌<◌, ◌≤◌, ◌+◌, ◌∷◌, [], List, length, slice_index, if◌then◌else◌, None, false, IsTrue, IsNone, ◌↔◌};
 ghost use Rattle.std.specs.Option.{option_map};
 ghost use Rattle.pws_event.specs.declared.events.Event.{Event};
 ghost use Rattle.pws_event.specs.Requests.{IsRequest};
@@ -57,7 +57,7 @@ ghost use Rattle.pws_event.specs.Readings.{IsClock, IsRandom};
 ghost use Rattle.pws_event.specs.Events.{IsEvent};
 ghost use Rattle.pws_event.specs.Effects.{last_of, low_of, is_other, is_sort, waits, last_call, low_out, waiting_ask, answered_asks, clock_of, takes_effect};
 ghost use Rattle.pws_event.specs.Histories.{Past, nothing, with_call, with_ask, after_event};
-ghost use Rattle.pws_event.specs.Counters.{IsCounters, HasTaken, counter_of, slot_of, is_waiting, least_waiting, would_take, would_answer, would_effect, after_request, after_answer, ask_answered, after_clock, after_seed, after_call, after_ask, counters_after};
+ghost use Rattle.pws_event.specs.Counters.{IsCounters, HasTaken, CanCall, counter_of, slot_of, is_waiting, least_waiting, would_take, would_answer, would_effect, after_request, after_answer, ask_answered, after_clock, after_seed, after_call, after_ask, counters_after};
 
 fn is_sort(asked: Sort, sort: Sort) -> bool
     ensures { result ≡ is_sort asked sort }
@@ -153,6 +153,7 @@ impl Effect {
         ensures value { (past : Past) → HasTaken self.now past → result ≡ low_out past.acts past.effects called }
         ensures counter { result ≡ least_waiting self.now called }
         ensures none { is_other self.now.me self.now.layout called ≡ false → result ≡ 1 }
+        ensures small { result ≤ 1000001 }
     {
         self.find_low_out(called)
     }
@@ -162,6 +163,7 @@ impl Effect {
     fn find_low_out(&self, called: GroupId) -> Number
         ensures counter { result ≡ least_waiting self.now called }
         ensures counters { IsCounters self.now }
+        ensures small { result ≤ 1000001 }
     {
         let _own = &self.me;
         let last = self.last_call(called);
@@ -193,6 +195,7 @@ impl Effect {
     #[tactic(auto, using(crate::proofs::Asked::waiting_same))]
     pub fn waiting_ask(&self) -> Option<(u32, Sort)>
         ensures value { (past : Past) → HasTaken self.now past → result ≡ waiting_ask past.acts past.effects }
+        ensures none { IsNone result ↔ (self.now.ask ≡ None) }
         ensures counter { result ≡ option_map (λ s. (self.now.answered + 1, s)) self.now.ask }
     {
         match self.ask {
@@ -363,14 +366,28 @@ impl Effect {
         }
     }
 
-    /// Notes the next call of the group's service. Its conditions: `called` is another group of the layout, the number
-    /// is one more than that of the last noted call to it (the first is 1), which `last_call` tells, and below
-    /// `low_out` plus 16.
+    /// Whether a call of this number to this group may be noted: `called` is another group of the layout, and the number
+    /// is one more than that of the last noted call to it (the first is 1), which `last_call` tells, below `low_out` plus
+    /// 16, and at most 1,000,000.
+    pub fn can_call(&self, called: GroupId, number: Number) -> bool
+        ensures { IsTrue result ↔ CanCall self.now called number }
+    {
+        self.is_other(called)
+            && number == self.last_call(called) + 1
+            && number < self.low_out(called) + 16
+            && number <= 1000000
+    }
+
+    /// Whether a group is another one of the layout.
+    fn is_other(&self, group: GroupId) -> bool
+        ensures { result ≡ is_other self.now.me self.now.layout group }
+    {
+        group < self.layout.groups() && group != self.me
+    }
+
+    /// Notes the next call of the group's service, which is one that may be noted.
     pub fn call(&mut self, called: GroupId, number: Number)
-        requires other { IsTrue (is_other self.old.me self.old.layout called) }
-        requires next { number ≡ counter_of self.old.called called 0 + 1 }
-        requires room { number < least_waiting self.old called + 16 }
-        requires small { number ≤ 1000000 }
+        requires { CanCall self.old called number }
         ensures taken { (past : Past) → HasTaken self.old past → HasTaken self.new (record past { acts = with_call called number past.acts }) }
         ensures counters { self.new ≡ after_call self.old called number }
         ensures me { self.new.me ≡ self.old.me }
@@ -380,10 +397,7 @@ impl Effect {
     }
 
     fn note_call(&mut self, called: GroupId, number: Number)
-        requires other { IsTrue (is_other self.old.me self.old.layout called) }
-        requires next { number ≡ counter_of self.old.called called 0 + 1 }
-        requires room { number < least_waiting self.old called + 16 }
-        requires small { number ≤ 1000000 }
+        requires { CanCall self.old called number }
         ensures counters { IsCounters self.old }
         ensures noted { self.new ≡ after_call self.old called number }
     {
@@ -391,7 +405,7 @@ impl Effect {
         self.waiting[slot(called, number)] = number;
     }
 
-    /// Notes the next ask of the group's service. Its condition: no ask waits.
+    /// Notes the next ask of the group's service. Its condition: no ask waits, which `waiting_ask` tells.
     #[tactic(auto, using(crate::proofs::Asked::ask_more))]
     pub fn ask(&mut self, sort: Sort)
         requires { self.old.ask ≡ None }

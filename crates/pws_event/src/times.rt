@@ -1,10 +1,12 @@
-//! The time that a group agrees on.
+//! The time and the seed that a group agrees on.
 
 ghost use Rattle.std.specs.Prelude.{◌≡◌, nat_lt, nat_le, find, count_by};
 ghost use Rattle.std.specs.Option.{option_copied};
-ghost use Rattle.pws_event.specs.Times.{rank_of, is_ranked, agreed_time};
+ghost use Rattle.pws_event.specs.Times.{rank_of, is_ranked, agreed_time, agreed_seed};
 
-use crate::readings::Reading;
+use crate::readings::{Reading, Share};
+use pws_base::shapes::Digest;
+use sha2::{Digest as _, Sha256};
 use std::cmp::min;
 
 /// How many readings are below a time.
@@ -55,4 +57,15 @@ fn rank_of(f: u8, readings: &[Reading]) -> usize
     ensures { result ≡ rank_of f readings.now }
 {
     min(f as usize, readings.len().saturating_sub(1))
+}
+
+/// The agreed seed: the SHA-256 of the shares, joined in the order of their replicas.
+pub fn agreed_seed(shares: &[Share]) -> Digest
+    ensures { result ≡ agreed_seed shares.now }
+{
+    let mut hasher = Sha256::new();
+    for share in shares.iter() {
+        hasher.update(share.bytes.as_slice());
+    }
+    hasher.finalize()
 }
