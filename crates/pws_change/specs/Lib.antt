@@ -1,0 +1,7 @@
+pub mod Agreements
+pub mod Changes
+pub mod Choices
+pub mod Laws
+pub mod Rising
+pub mod Sets
+pub mod Valid

@@ -1,0 +1,5 @@
+//! What a new view keeps of the earlier ones.
+#![tactic(auto)]
+
+pub mod decisions;
+pub mod heard;
