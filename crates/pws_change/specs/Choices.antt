@@ -1,7 +1,7 @@
 -- What a new view keeps of a list of view changes, after the decision procedure of Castro and Liskov (2002), Practical
 -- Byzantine Fault Tolerance and Proactive Recovery; that a digest is taken by its order, and the limits, are this
 -- project's own. Each condition is a count over the whole list; f is the number of replicas that may be compromised.
-use Rattle.std.specs.Prelude.{◌≡◌, ℕ, ◌+◌, ◌-◌, ◌<◌, ◌≤◌, ◌⊎◌, List, [], length, map, max, min, slice_index_or, IsTrue}
+use Rattle.std.specs.Prelude.{◌≡◌, ℕ, ◌+◌, ◌-◌, ◌<◌, ◌≤◌, ◌⊎◌, List, [], length, max, min, slice_index_or, IsTrue}
 use Rattle.std.specs.List.{count_by, flat_map, fold}
 use Rattle.pws_base.specs.Shapes.{quorum_of, weak_of}
 use Rattle.pws_event.specs.Events.{digest_of}

@@ -1,6 +1,6 @@
 -- What a replica prepared and pre-prepared in earlier views, as finite maps, after Castro and Liskov (2002), Practical
 -- Byzantine Fault Tolerance and Proactive Recovery; that a row has at most 16 digests is this project's own.
-use Rattle.std.specs.Prelude.{ℕ, ◌&&◌, not, Bool, nat_lt, nat_le, List, length, map, IsTrue}
+use Rattle.std.specs.Prelude.{ℕ, ◌&&◌, not, Bool, nat_lt, nat_le, List, length, map}
 use Rattle.std.specs.List.{list_all}
 use Rattle.std.specs.Option.{unwrap_or}
 use Rattle.std.specs.Ordering.{nat_cmp}

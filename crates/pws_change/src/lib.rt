@@ -3,3 +3,4 @@
 
 pub mod decisions;
 pub mod heard;
+pub mod laws;
