@@ -1,11 +1,12 @@
 -- The best of some items, after one more.
 use Rattle.std.proofs.Common.{◌≡◌, ℕ, ◌+◌, ◌<◌, ◌≤◌, ◌&&◌, ◌||◌, ◌⊎◌, not, Bool, true, false, nat_lt, ◌==◌, List, [], ◌∷◌, ◌++◌, take, length, get_or, append_assoc, Option, Some, None, refl, sym, ◌∙◌, ap, subst, inl, inr, arith}
 use Rattle.std.specs.List.{list_any, list_all, flat_map}
-use Rattle.std.proofs.lemmas.Bool.{false≢true, and_parts, and_from, and_cases, or_cases, or_left, or_right, not-true, not-false, ltb-true, ltb-false, lt-ltb, eqb-true, eq-eqb, cases_Bool, cases_order}
-use Rattle.std.proofs.lemmas.List.{take_more, take_all, flat_map_more}
+use Rattle.std.proofs.lemmas.Bool.{false≢true, and_parts, and_from, and_cases, or_cases, or_left, or_right, not-true, not-false, ltb-true, lt-ltb, eqb-true, eq-eqb, cases_Bool, cases_order}
+use Rattle.std.proofs.lemmas.List.{take_more, take_all}
 use Rattle.std.proofs.lemmas.List.Folds.{list_any-append, list_all-append}
 use Rattle.pws_change.specs.Best.{Rank, is_no_better, is_better, IsBest}
 use Rattle.pws_change.specs.Rising.{is_digest_at_most}
+use Rattle.pws_change.proofs.Counted.{flat_map-take_more}
 use Rattle.pws_change.proofs.Orders.{at_most_trans, at_most_other, at_most_itself}
 
 -- what it is to be no better
@@ -110,8 +111,7 @@ module _ {X : Type 0} (ok : X → Bool) (rank : X → Rank) (same : X → X → 
 
   -- the items of one list more
   pub best_flat_more : {Y : Type 0} (f : Y → List X) (ys : List Y) (i : ℕ) (y : Y) (best : Option X) → i < length ys → y ≡ get_or ys i y → IsBest ok rank same (flat_map f (take i ys) ++ f y) best → IsBest ok rank same (flat_map f (take (i + 1) ys)) best
-  best_flat_more f ys i y best l e h =
-      subst (λ zs. IsBest ok rank same zs best) (flat_map_more f [] (take i ys) y ∙ ap (flat_map f) (ap (λ z. take i ys ++ z ∷ []) e ∙ sym (take_more ys i y l))) h
+  best_flat_more f ys i y best l e h = subst (λ zs. IsBest ok rank same zs best) (flat_map-take_more f ys i y l e) h
 
   -- the items of all lists
   pub best_flat_all : {Y : Type 0} (f : Y → List X) (ys : List Y) (i : ℕ) (best : Option X) → length ys ≤ i → IsBest ok rank same (flat_map f (take i ys)) best → IsBest ok rank same (flat_map f ys) best

@@ -1,8 +1,7 @@
 -- The law of the choice.
 use Rattle.std.proofs.Common.{◌≡◌, ℕ, ◌+◌, ◌<◌, ◌≤◌, ◌⊎◌, inl, inr, ◌&&◌, not, nat_lt, nat_le, Bool, true, max, List, [], ◌∷◌, All, sym, ◌∙◌, ◌==◌, arith}
 use Rattle.std.specs.List.{list_any, list_all, count_by, fold}
-use Rattle.std.proofs.lemmas.Bool.{false≢true, and_parts, and_from, and_cases, not-true, not-false, or_cases, or_left, or_right, eq-eqb, ltb-true, eqb-true, leb-true, lt-ltb, le-leb}
-use Rattle.std.proofs.lemmas.List.Folds.{list_any-append}
+use Rattle.std.proofs.lemmas.Bool.{false≢true, and_parts, and_from, and_cases, not-true, not-false, or_cases, eq-eqb, ltb-true, eqb-true, leb-true, lt-ltb, le-leb}
 use Rattle.std.proofs.lemmas.Slice.Eq.{bytes_eq-Decides}
 use Rattle.pws_base.specs.Shapes.{quorum_of, weak_of}
 use Rattle.pws_msg.specs.declared.changes.PRow.{PRow}

@@ -1,5 +1,5 @@
 -- The best checkpoint is the one that a view starts from, and the best row is the best entry that meets A.
-use Rattle.std.proofs.Common.{◌≡◌, ℕ, ◌<◌, ◌≤◌, ◌&&◌, ◌||◌, ◌⊎◌, not, nat_le, Bool, true, false, ◌==◌, List, Option, Some, None, MatchOption, IsTrue, refl, sym, ◌∙◌, ap, subst, inl, inr, arith}
+use Rattle.std.proofs.Common.{◌≡◌, ℕ, ◌<◌, ◌&&◌, ◌||◌, ◌⊎◌, not, nat_le, Bool, true, ◌==◌, List, Option, Some, None, MatchOption, refl, sym, ◌∙◌, subst, inl, inr, arith}
 use Rattle.std.specs.List.{list_any, list_all, count_by, flat_map}
 use Rattle.std.specs.Str.{bytes_eq}
 use Rattle.std.proofs.lemmas.Bool.{false≢true, and_parts, and_from, or_cases, not-true, eqb-true, leb-true, le-leb, eq-eqb}

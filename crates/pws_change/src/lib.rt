@@ -1,6 +1,8 @@
 //! What a new view keeps of the earlier ones.
 #![tactic(auto)]
 
+pub mod agreements;
+pub mod choices;
 pub mod counts;
 pub mod decisions;
 pub mod digests;

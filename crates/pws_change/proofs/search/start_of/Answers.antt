@@ -1,4 +1,4 @@
-use Rattle.std.proofs.Common.{take, arith, subst, IsTrue}
+use Rattle.std.proofs.Common.{take, arith, subst}
 use Rattle.pws_msg.specs.declared.changes.Checkpoint.{Checkpoint}
 use Rattle.std.proofs.Common.{List, ◌++◌}
 use Rattle.pws_change.specs.declared.heard.Heard.{Heard}
