@@ -9,3 +9,4 @@ pub mod digests;
 pub mod heard;
 pub mod laws;
 pub mod search;
+pub mod valid;
