@@ -39,13 +39,13 @@ fn check_decision(
     changes: &mut [Heard],
     shape: GroupShape,
     wanted: &Decision,
-    name: &str,
+    line: &str,
 ) -> Result<(), Fail> {
     let first = choose(alloc, changes, shape)?;
-    assert!(rt; is_decision(&first, wanted), "{name}");
+    assert!(rt; is_decision(&first, wanted), "{line}");
     changes.reverse();
     let second = choose(alloc, changes, shape)?.copy(alloc)?;
-    assert!(rt; is_decision(&second, wanted), "{name}");
+    assert!(rt; is_decision(&second, wanted), "{line}");
     changes.reverse();
     Ok(())
 }
@@ -56,26 +56,26 @@ fn check_line(
     changes: &mut Vec<Heard>,
     shape: GroupShape,
     words: &[&str],
-    name: &str,
+    line: &str,
 ) -> Result<(), Fail> {
     if words.len() == 8 {
         let heard = heard_of(alloc, &words[1..7])?;
-        assert_eq!(rt; valid(&heard.change), words[7] == "valid", "{name}");
+        assert_eq!(rt; valid(&heard.change), words[7] == "valid", "{line}");
         changes.push(heard.copy(alloc)?)?;
     } else if words.len() == 7 {
         let choice = choice_of(alloc, words[3], words[4], words[5])?;
         let new = new_view_of(alloc, words[1], words[2], choice)?;
         let answer = agrees(&new.copy(alloc)?, changes, shape);
-        assert_eq!(rt; answer, words[6] == "yes", "{name}");
+        assert_eq!(rt; answer, words[6] == "yes", "{line}");
     } else if words.len() == 4 {
         let wanted = Decision::Chosen(choice_of(alloc, words[1], words[2], words[3])?);
-        check_decision(rt, alloc, changes, shape, &wanted, name)?;
+        check_decision(rt, alloc, changes, shape, &wanted, line)?;
     } else {
-        assert_eq!(rt; words.len(), 2, "{name}");
+        assert_eq!(rt; words.len(), 2, "{line}");
         let wanted = Decision::Undecided {
             place: words[1].parse::<u32>()?,
         };
-        check_decision(rt, alloc, changes, shape, &wanted, name)?;
+        check_decision(rt, alloc, changes, shape, &wanted, line)?;
     }
     Ok(())
 }
@@ -83,17 +83,15 @@ fn check_line(
 fn check_cases(rt: &impl Abort, alloc: Global, text: &str) -> Result<u32, Fail> {
     let mut shape = GroupShape::new(0)?;
     let mut changes = Vec::new(alloc);
-    let mut name = "";
     let mut cases = 0u32;
     for line in text.lines() {
         let words: Vec<&str> = line.split(' ').collect(alloc)?;
         if words.len() == 3 {
-            name = words[1];
             shape = GroupShape::new(words[2].parse::<u8>()?)?;
             changes.clear();
             cases = cases.saturating_add(1);
         } else {
-            check_line(rt, alloc, &mut changes, shape, &words, name)?;
+            check_line(rt, alloc, &mut changes, shape, &words, line)?;
         }
     }
     Ok(cases)

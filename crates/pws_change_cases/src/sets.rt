@@ -62,6 +62,7 @@ fn check_q_rows(
 }
 
 fn step_p(rt: &impl Abort, set: &mut PSet, words: &[&str], line: &str) -> Result<(), Fail> {
+    assert!(rt; 1 <= words.len(), "{line}");
     if words[0] == "note" && words.len() == 5 {
         set.note(
             words[1].parse::<u32>()?,
@@ -83,6 +84,7 @@ fn step_q(
     words: &[&str],
     line: &str,
 ) -> Result<(), Fail> {
+    assert!(rt; 1 <= words.len(), "{line}");
     if words[0] == "note" && words.len() == 5 {
         let (place, digest, view) = (
             words[1].parse::<u32>()?,
