@@ -87,7 +87,7 @@ fn check_cases(rt: &impl Abort, alloc: Global, text: &str) -> Result<u32, Fail> 
     for line in text.lines() {
         let words: Vec<&str> = line.split(' ').collect(alloc)?;
         if words.len() == 3 {
-            shape = GroupShape::new(words[2].parse::<u8>()?)?;
+            shape = GroupShape::new(words[1].parse::<u8>()?)?;
             changes.clear();
             cases = cases.saturating_add(1);
         } else {

@@ -37,154 +37,154 @@ pub const DIGESTS: &str = "\
 
 /// Lists of view changes and what they decide.
 ///
-/// A case is `case NAME F`; for each change `change INDEX VIEW LOW CHECKPOINTS PREPARED PRE-PREPARED` and whether it is
+/// A case is `case F NAME`; for each change `change INDEX VIEW LOW CHECKPOINTS PREPARED PRE-PREPARED` and whether it is
 /// valid; `choice PLACE DIGEST CHOSEN` or `undecided PLACE`, what they decide; and `new VIEW NAMED PLACE DIGEST CHOSEN`,
 /// with whether this new view agrees with them. A checkpoint is `PLACE:DIGEST`, a prepared row `PLACE:DIGEST:VIEW`, a
 /// pre-prepared row `PLACE:DIGEST:VIEW/DIGEST:VIEW`, a named pair `INDEX:DIGEST`.
 pub const ENTRIES: &str = "\
-    case nothing-named 1\n\
+    case 1 nothing-named\n\
     change 0 1 0 0:z - - valid\n\
     change 1 1 0 0:z - - valid\n\
     change 2 1 0 0:z - - valid\n\
     choice 0 z -\n\
-    case no-change 1\n\
+    case 1 no-change\n\
     undecided 0\n\
-    case fewer-than-a-quorum 1\n\
+    case 1 fewer-than-a-quorum\n\
     change 0 1 0 0:z 1:d:0 1:d:0 valid\n\
     change 1 1 0 0:z 1:d:0 1:d:0 valid\n\
     undecided 0\n\
-    case witness 1\n\
+    case 1 witness\n\
     change 0 1 0 0:z 1:d:0 1:d:0 valid\n\
     change 1 1 0 0:z 1:d:0 1:d:0 valid\n\
     change 2 1 0 0:z - - valid\n\
     choice 0 z d\n\
-    case witness-in-another-order-of-senders 1\n\
+    case 1 witness-in-another-order-of-senders\n\
     change 1 1 0 0:z - - valid\n\
     change 2 1 0 0:z 1:d:0 1:d:0 valid\n\
     change 3 1 0 0:z 1:d:0 1:d:0 valid\n\
     choice 0 z d\n\
-    case null-between 1\n\
+    case 1 null-between\n\
     change 0 1 0 0:z 1:d:0,3:e:0 1:d:0,3:e:0 valid\n\
     change 1 1 0 0:z 1:d:0,3:e:0 1:d:0,3:e:0 valid\n\
     change 2 1 0 0:z - - valid\n\
     choice 0 z d,n,e\n\
-    case lie-in-p-and-q-blocks 1\n\
+    case 1 lie-in-p-and-q-blocks\n\
     change 0 6 0 0:z 1:d:0 1:d:0 valid\n\
     change 1 6 0 0:z 1:d:0 1:d:0 valid\n\
     change 2 6 0 0:z 1:e:5 1:e:5 valid\n\
     undecided 1\n\
-    case lie-in-p-and-q-outvoted-by-a-fourth 1\n\
+    case 1 lie-in-p-and-q-outvoted-by-a-fourth\n\
     change 0 6 0 0:z 1:d:0 1:d:0 valid\n\
     change 1 6 0 0:z 1:d:0 1:d:0 valid\n\
     change 2 6 0 0:z 1:e:5 1:e:5 valid\n\
     change 3 6 0 0:z 1:d:0 1:d:0 valid\n\
     choice 0 z d\n\
-    case lie-with-the-changes-own-view 1\n\
+    case 1 lie-with-the-changes-own-view\n\
     change 0 6 0 0:z 1:d:0 1:d:0 valid\n\
     change 1 6 0 0:z 1:d:0 1:d:0 valid\n\
     change 2 6 0 0:z 1:e:6 1:e:5 invalid\n\
     undecided 1\n\
-    case lie-in-q-alone-changes-nothing 1\n\
+    case 1 lie-in-q-alone-changes-nothing\n\
     change 0 1 0 0:z - - valid\n\
     change 1 1 0 0:z - 1:d:0/e:0 valid\n\
     change 2 1 0 0:z - - valid\n\
     choice 0 z -\n\
-    case lie-in-p-without-q-blocks 1\n\
+    case 1 lie-in-p-without-q-blocks\n\
     change 0 1 0 0:z - - valid\n\
     change 1 1 0 0:z - - valid\n\
     change 2 1 0 0:z 2:d:0 - valid\n\
     undecided 2\n\
-    case lie-in-p-without-q-becomes-null-with-a-fourth 1\n\
+    case 1 lie-in-p-without-q-becomes-null-with-a-fourth\n\
     change 0 1 0 0:z - - valid\n\
     change 1 1 0 0:z - - valid\n\
     change 2 1 0 0:z 2:d:0 - valid\n\
     change 3 1 0 0:z - - valid\n\
     choice 0 z n,n\n\
-    case prepared-by-one-accepted-by-two 1\n\
+    case 1 prepared-by-one-accepted-by-two\n\
     change 0 1 0 0:z 1:d:0 1:d:0 valid\n\
     change 1 1 0 0:z - 1:d:0 valid\n\
     change 2 1 0 0:z - - valid\n\
     choice 0 z d\n\
-    case prepared-by-two-accepted-by-one 1\n\
+    case 1 prepared-by-two-accepted-by-one\n\
     change 0 1 0 0:z 1:d:0 1:d:0 valid\n\
     change 1 1 0 0:z 1:d:0 - valid\n\
     change 2 1 0 0:z - - valid\n\
     undecided 1\n\
-    case accepted-in-a-lower-view-is-no-witness 1\n\
+    case 1 accepted-in-a-lower-view-is-no-witness\n\
     change 0 6 0 0:z 1:d:3 1:d:3 valid\n\
     change 1 6 0 0:z 1:d:3 1:d:2 valid\n\
     change 2 6 0 0:z - - valid\n\
     undecided 1\n\
-    case accepted-in-a-higher-view-is-a-witness 1\n\
+    case 1 accepted-in-a-higher-view-is-a-witness\n\
     change 0 6 0 0:z 1:d:3 1:d:3 valid\n\
     change 1 6 0 0:z 1:d:2 1:d:5 valid\n\
     change 2 6 0 0:z - - valid\n\
     choice 0 z d\n\
-    case witness-among-other-digests-of-its-row 1\n\
+    case 1 witness-among-other-digests-of-its-row\n\
     change 0 6 0 0:z 1:e:3 1:d:0/e:3/a:4 valid\n\
     change 1 6 0 0:z - 1:d:5/e:3 valid\n\
     change 2 6 0 0:z - - valid\n\
     choice 0 z e\n\
-    case witness-at-another-place-doesnt-count 1\n\
+    case 1 witness-at-another-place-doesnt-count\n\
     change 0 1 0 0:z 1:d:0 1:d:0 valid\n\
     change 1 1 0 0:z - 2:d:0 valid\n\
     change 2 1 0 0:z - - valid\n\
     undecided 1\n\
-    case later-view-prevails 1\n\
+    case 1 later-view-prevails\n\
     change 0 6 0 0:z 1:d:1 1:d:1 valid\n\
     change 1 6 0 0:z 1:e:2 1:e:2 valid\n\
     change 2 6 0 0:z 1:e:2 1:e:2 valid\n\
     choice 0 z e\n\
-    case later-view-prevails-though-both-are-possible 1\n\
+    case 1 later-view-prevails-though-both-are-possible\n\
     change 0 6 0 0:z 1:d:1 1:d:1 valid\n\
     change 1 6 0 0:z 1:d:1 1:d:1 valid\n\
     change 2 6 0 0:z - 1:e:3 valid\n\
     change 3 6 0 0:z 1:e:3 1:e:3 valid\n\
     choice 0 z e\n\
-    case later-view-without-a-witness-yields 1\n\
+    case 1 later-view-without-a-witness-yields\n\
     change 0 6 0 0:z 1:d:1 1:d:1 valid\n\
     change 1 6 0 0:z 1:d:1 1:d:1 valid\n\
     change 2 6 0 0:z - - valid\n\
     change 3 6 0 0:z 1:e:3 1:e:3 valid\n\
     choice 0 z d\n\
-    case two-digests-of-one-view-the-least 1\n\
+    case 1 two-digests-of-one-view-the-least\n\
     change 0 6 0 0:z 1:e:2 1:d:2/e:2 valid\n\
     change 1 6 0 0:z 1:d:2 1:d:2/e:2 valid\n\
     change 2 6 0 0:z - 1:d:2/e:2 valid\n\
     change 3 6 0 0:z - - valid\n\
     choice 0 z d\n\
-    case two-digests-of-one-view-the-least-has-no-witness 1\n\
+    case 1 two-digests-of-one-view-the-least-has-no-witness\n\
     change 0 6 0 0:z 1:e:2 1:e:2 valid\n\
     change 1 6 0 0:z 1:d:2 1:d:2 valid\n\
     change 2 6 0 0:z - 1:e:2 valid\n\
     change 3 6 0 0:z - - valid\n\
     choice 0 z e\n\
-    case two-digests-of-one-view-among-a-quorum-block 1\n\
+    case 1 two-digests-of-one-view-among-a-quorum-block\n\
     change 0 6 0 0:z 1:e:2 1:d:2/e:2 valid\n\
     change 1 6 0 0:z 1:d:2 1:d:2/e:2 valid\n\
     change 2 6 0 0:z - 1:d:2/e:2 valid\n\
     undecided 1\n\
-    case null-was-prepared 1\n\
+    case 1 null-was-prepared\n\
     change 0 3 0 0:z 1:n:2 1:n:2 valid\n\
     change 1 3 0 0:z 1:n:2 1:n:2 valid\n\
     change 2 3 0 0:z 1:d:1 1:d:1 valid\n\
     choice 0 z n\n\
-    case one-digest-in-two-views 1\n\
+    case 1 one-digest-in-two-views\n\
     change 0 6 0 0:z 1:d:1 1:d:1 valid\n\
     change 1 6 0 0:z 1:d:4 1:d:4 valid\n\
     change 2 6 0 0:z 1:d:4 1:d:4 valid\n\
     choice 0 z d\n\
-    case later-view-of-the-same-digest-without-a-witness-blocks 1\n\
+    case 1 later-view-of-the-same-digest-without-a-witness-blocks\n\
     change 0 6 0 0:z 1:d:1 1:d:1 valid\n\
     change 1 6 0 0:z 1:d:4 1:d:4 valid\n\
     change 2 6 0 0:z 1:d:1 1:d:1 valid\n\
     undecided 1\n\
-    case undecided-at-the-first-such-place 1\n\
+    case 1 undecided-at-the-first-such-place\n\
     change 0 1 0 0:z 1:d:0,2:e:0,4:d:0 1:d:0 valid\n\
     change 1 1 0 0:z 1:d:0 1:d:0 valid\n\
     change 2 1 0 0:z - - valid\n\
     undecided 2\n\
-    case thirty-two-places 1\n\
+    case 1 thirty-two-places\n\
     change 0 1 0 0:z 1:e:0,2:a:0,3:d:0,4:e:0,5:a:0,6:d:0,7:e:0,8:a:0,9:d:0,10:e:0,11:a:0,12:d:0,13:e:0,14:a:0,15:d:0,16:e:0,17:a:0,18:d:0,19:e:0,20:a:0,21:d:0,22:e:0,23:a:0,24:d:0,25:e:0,26:a:0,27:d:0,28:e:0,29:a:0,30:d:0,31:e:0,32:a:0 1:e:0,2:a:0,3:d:0,4:e:0,5:a:0,6:d:0,7:e:0,8:a:0,9:d:0,10:e:0,11:a:0,12:d:0,13:e:0,14:a:0,15:d:0,16:e:0,17:a:0,18:d:0,19:e:0,20:a:0,21:d:0,22:e:0,23:a:0,24:d:0,25:e:0,26:a:0,27:d:0,28:e:0,29:a:0,30:d:0,31:e:0,32:a:0 valid\n\
     change 1 1 0 0:z 1:e:0,2:a:0,3:d:0,4:e:0,5:a:0,6:d:0,7:e:0,8:a:0,9:d:0,10:e:0,11:a:0,12:d:0,13:e:0,14:a:0,15:d:0,16:e:0,17:a:0,18:d:0,19:e:0,20:a:0,21:d:0,22:e:0,23:a:0,24:d:0,25:e:0,26:a:0,27:d:0,28:e:0,29:a:0,30:d:0,31:e:0,32:a:0 1:e:0,2:a:0,3:d:0,4:e:0,5:a:0,6:d:0,7:e:0,8:a:0,9:d:0,10:e:0,11:a:0,12:d:0,13:e:0,14:a:0,15:d:0,16:e:0,17:a:0,18:d:0,19:e:0,20:a:0,21:d:0,22:e:0,23:a:0,24:d:0,25:e:0,26:a:0,27:d:0,28:e:0,29:a:0,30:d:0,31:e:0,32:a:0 valid\n\
     change 2 1 0 0:z - - valid\n\
@@ -192,102 +192,102 @@ pub const ENTRIES: &str = "\
 
 /// The same, where checkpoints and low marks differ.
 pub const CHECKPOINTS: &str = "\
-    case checkpoint-of-two 1\n\
+    case 1 checkpoint-of-two\n\
     change 0 1 0 0:z,16:b - - valid\n\
     change 1 1 0 0:z,16:b - - valid\n\
     change 2 1 0 0:z - - valid\n\
     choice 16 b -\n\
-    case checkpoint-of-one-is-too-few 1\n\
+    case 1 checkpoint-of-one-is-too-few\n\
     change 0 1 0 0:z,16:b - - valid\n\
     change 1 1 0 0:z - - valid\n\
     change 2 1 0 0:z - - valid\n\
     choice 0 z -\n\
-    case checkpoint-with-two-digests-the-least 1\n\
+    case 1 checkpoint-with-two-digests-the-least\n\
     change 0 1 0 0:z,16:c - - valid\n\
     change 1 1 0 0:z,16:b - - valid\n\
     change 2 1 0 0:z,16:b - - valid\n\
     change 3 1 0 0:z,16:c - - valid\n\
     choice 16 b -\n\
-    case checkpoint-with-two-digests-the-least-of-one-alone 1\n\
+    case 1 checkpoint-with-two-digests-the-least-of-one-alone\n\
     change 0 1 0 0:z,16:c - - valid\n\
     change 1 1 0 0:z,16:b - - valid\n\
     change 2 1 0 0:z,16:c - - valid\n\
     choice 16 c -\n\
-    case checkpoint-highest-before-most 1\n\
+    case 1 checkpoint-highest-before-most\n\
     change 0 1 0 0:z,16:b - - valid\n\
     change 1 1 0 0:z,16:b,32:c - - valid\n\
     change 2 1 0 0:z,16:b,32:c - - valid\n\
     change 3 1 0 0:z,16:b - - valid\n\
     choice 32 c -\n\
-    case checkpoint-above-low-passes-rows-by 1\n\
+    case 1 checkpoint-above-low-passes-rows-by\n\
     change 0 1 0 0:z,16:b 5:d:0,16:d:0,17:e:0 5:d:0,16:d:0,17:e:0 valid\n\
     change 1 1 0 0:z,16:b 5:d:0,17:e:0 5:d:0,17:e:0 valid\n\
     change 2 1 0 0:z - - valid\n\
     choice 16 b e\n\
-    case checkpoint-above-low-and-no-rows-above-it 1\n\
+    case 1 checkpoint-above-low-and-no-rows-above-it\n\
     change 0 1 0 0:z,16:b 5:d:0 5:d:0 valid\n\
     change 1 1 0 0:z,16:b 5:e:0 5:e:0 valid\n\
     change 2 1 0 0:z - - valid\n\
     choice 16 b -\n\
-    case checkpoint-where-lows-differ 1\n\
+    case 1 checkpoint-where-lows-differ\n\
     change 0 1 16 16:b - - valid\n\
     change 1 1 16 16:b - - valid\n\
     change 2 1 0 0:z - - valid\n\
     change 3 1 0 0:z - - valid\n\
     choice 16 b -\n\
-    case checkpoint-below-the-low-of-most 1\n\
+    case 1 checkpoint-below-the-low-of-most\n\
     change 0 1 16 16:b - - valid\n\
     change 1 1 16 16:b - - valid\n\
     change 2 1 0 0:z - - valid\n\
     choice 16 b -\n\
-    case checkpoint-all-three-differ 1\n\
+    case 1 checkpoint-all-three-differ\n\
     change 0 1 32 32:c - - valid\n\
     change 1 1 16 16:b - - valid\n\
     change 2 1 0 0:z - - valid\n\
     undecided 0\n\
-    case checkpoint-named-by-enough-but-lows-too-high 1\n\
+    case 1 checkpoint-named-by-enough-but-lows-too-high\n\
     change 0 1 0 0:z - - valid\n\
     change 1 1 0 0:z - - valid\n\
     change 2 1 16 16:b - - valid\n\
     change 3 1 32 32:c - - valid\n\
     undecided 0\n\
-    case rows-up-to-32-above-the-checkpoint 1\n\
+    case 1 rows-up-to-32-above-the-checkpoint\n\
     change 0 1 0 0:z 1:d:0,32:e:0 1:d:0,32:e:0 valid\n\
     change 1 1 0 0:z 1:d:0,32:e:0 1:d:0,32:e:0 valid\n\
     change 2 1 0 0:z - - valid\n\
     change 3 1 16 16:b 33:a:0,40:a:0 33:a:0,40:a:0 valid\n\
     choice 0 z d,n,n,n,n,n,n,n,n,n,n,n,n,n,n,n,n,n,n,n,n,n,n,n,n,n,n,n,n,n,n,e\n\
-    case row-33-above-the-checkpoint-alone 1\n\
+    case 1 row-33-above-the-checkpoint-alone\n\
     change 0 1 0 0:z - - valid\n\
     change 1 1 0 0:z - - valid\n\
     change 2 1 0 0:z - - valid\n\
     change 3 1 16 16:b 33:a:0 33:a:0 valid\n\
     choice 0 z n,n,n,n,n,n,n,n,n,n,n,n,n,n,n,n,n,n,n,n,n,n,n,n,n,n,n,n,n,n,n,n\n\
-    case change-with-a-higher-low-doesnt-count-for-null 1\n\
+    case 1 change-with-a-higher-low-doesnt-count-for-null\n\
     change 0 1 0 0:z - - valid\n\
     change 1 1 0 0:z - - valid\n\
     change 2 1 0 0:z 3:d:0 3:d:0 valid\n\
     change 3 1 16 16:b - - valid\n\
     undecided 3\n\
-    case change-with-a-higher-low-doesnt-count-for-a-digest 1\n\
+    case 1 change-with-a-higher-low-doesnt-count-for-a-digest\n\
     change 0 6 0 0:z 3:d:0 3:d:0 valid\n\
     change 1 6 0 0:z 3:d:0 3:d:0 valid\n\
     change 2 6 0 0:z 3:e:1 - valid\n\
     change 3 6 16 16:b - - valid\n\
     undecided 3\n\
-    case change-with-its-low-at-the-place-doesnt-count-for-null 1\n\
+    case 1 change-with-its-low-at-the-place-doesnt-count-for-null\n\
     change 0 1 0 0:z - - valid\n\
     change 1 1 0 0:z - - valid\n\
     change 2 1 0 0:z 16:d:0 - valid\n\
     change 3 1 16 16:b - - valid\n\
     undecided 16\n\
-    case change-with-its-low-at-the-place-doesnt-count-for-a-digest 1\n\
+    case 1 change-with-its-low-at-the-place-doesnt-count-for-a-digest\n\
     change 0 6 0 0:z 16:d:3 16:d:3 valid\n\
     change 1 6 0 0:z 16:d:3 16:d:3 valid\n\
     change 2 6 0 0:z 16:e:5 - valid\n\
     change 3 6 16 16:b - - valid\n\
     undecided 16\n\
-    case change-with-its-low-at-the-place-before-counts 1\n\
+    case 1 change-with-its-low-at-the-place-before-counts\n\
     change 0 1 0 0:z,16:b 17:d:0 17:d:0 valid\n\
     change 1 1 16 16:b 17:d:0 17:d:0 valid\n\
     change 2 1 16 16:b - - valid\n\
@@ -295,40 +295,40 @@ pub const CHECKPOINTS: &str = "\
 
 /// The same, in groups of other sizes.
 pub const SIZES: &str = "\
-    case f-0 0\n\
+    case 0 f-0\n\
     change 0 1 0 0:z 2:d:0 2:d:0 valid\n\
     choice 0 z n,d\n\
-    case f-0-without-a-witness 0\n\
+    case 0 f-0-without-a-witness\n\
     change 0 1 0 0:z 1:d:0 - valid\n\
     undecided 1\n\
-    case f-2 2\n\
+    case 2 f-2\n\
     change 0 1 0 0:z 1:d:0 1:d:0 valid\n\
     change 1 1 0 0:z 1:d:0 1:d:0 valid\n\
     change 2 1 0 0:z 1:d:0 1:d:0 valid\n\
     change 3 1 0 0:z - - valid\n\
     change 4 1 0 0:z - - valid\n\
     choice 0 z d\n\
-    case f-2-four-changes 2\n\
+    case 2 f-2-four-changes\n\
     change 0 1 0 0:z 1:d:0 1:d:0 valid\n\
     change 1 1 0 0:z 1:d:0 1:d:0 valid\n\
     change 2 1 0 0:z 1:d:0 1:d:0 valid\n\
     change 3 1 0 0:z 1:d:0 1:d:0 valid\n\
     undecided 0\n\
-    case f-2-two-witnesses-are-too-few 2\n\
+    case 2 f-2-two-witnesses-are-too-few\n\
     change 0 1 0 0:z 1:d:0 1:d:0 valid\n\
     change 1 1 0 0:z 1:d:0 1:d:0 valid\n\
     change 2 1 0 0:z - - valid\n\
     change 3 1 0 0:z - - valid\n\
     change 4 1 0 0:z - - valid\n\
     undecided 1\n\
-    case f-2-two-lies-block-five 2\n\
+    case 2 f-2-two-lies-block-five\n\
     change 0 6 0 0:z 1:d:0 1:d:0 valid\n\
     change 1 6 0 0:z 1:d:0 1:d:0 valid\n\
     change 2 6 0 0:z 1:d:0 1:d:0 valid\n\
     change 3 6 0 0:z 1:e:5 1:e:5 valid\n\
     change 4 6 0 0:z 1:e:5 1:e:5 valid\n\
     undecided 1\n\
-    case f-2-two-lies-among-seven 2\n\
+    case 2 f-2-two-lies-among-seven\n\
     change 0 6 0 0:z 1:e:5 1:e:5 valid\n\
     change 1 6 0 0:z 1:d:0 1:d:0 valid\n\
     change 2 6 0 0:z 1:d:0 1:d:0 valid\n\
@@ -337,21 +337,21 @@ pub const SIZES: &str = "\
     change 5 6 0 0:z 1:e:5 1:e:5 valid\n\
     change 6 6 0 0:z - - valid\n\
     choice 0 z d\n\
-    case f-2-checkpoint-of-two-is-too-few 2\n\
+    case 2 f-2-checkpoint-of-two-is-too-few\n\
     change 0 1 0 0:z,16:b - - valid\n\
     change 1 1 0 0:z,16:b - - valid\n\
     change 2 1 0 0:z - - valid\n\
     change 3 1 0 0:z - - valid\n\
     change 4 1 0 0:z - - valid\n\
     choice 0 z -\n\
-    case f-2-checkpoint-of-three 2\n\
+    case 2 f-2-checkpoint-of-three\n\
     change 0 1 0 0:z,16:b - - valid\n\
     change 1 1 0 0:z,16:b - - valid\n\
     change 2 1 0 0:z,16:b - - valid\n\
     change 3 1 0 0:z - - valid\n\
     change 4 1 0 0:z - - valid\n\
     choice 16 b -\n\
-    case f-3 3\n\
+    case 3 f-3\n\
     change 0 6 0 0:z 1:e:5 - valid\n\
     change 1 6 0 0:z 1:e:5 - valid\n\
     change 2 6 0 0:z 1:e:5 - valid\n\
@@ -366,22 +366,22 @@ pub const SIZES: &str = "\
 
 /// The same, where changes are not valid, or at the bounds.
 pub const BOUNDS: &str = "\
-    case not-valid-two-rows-of-p-at-a-place 1\n\
+    case 1 not-valid-two-rows-of-p-at-a-place\n\
     change 0 6 0 0:z 1:d:0 1:d:0 valid\n\
     change 1 6 0 0:z 1:d:0 1:d:0 valid\n\
     change 2 6 0 0:z 1:d:0,1:e:3 1:d:0 invalid\n\
     undecided 1\n\
-    case not-valid-two-digests-of-c-at-a-place 1\n\
+    case 1 not-valid-two-digests-of-c-at-a-place\n\
     change 0 1 0 0:z,16:c,16:b - - invalid\n\
     change 1 1 0 0:z,16:b - - valid\n\
     change 2 1 0 0:z,16:c - - valid\n\
     choice 16 b -\n\
-    case not-valid-place-of-c-no-multiple-of-16 1\n\
+    case 1 not-valid-place-of-c-no-multiple-of-16\n\
     change 0 1 0 0:z,5:d - - invalid\n\
     change 1 1 0 0:z,5:d - - invalid\n\
     change 2 1 0 0:z - - valid\n\
     choice 5 d -\n\
-    case valid-bounds 3\n\
+    case 3 valid-bounds\n\
     change 0 1 0 0:z - - valid\n\
     change 1 1000000 0 0:z - - valid\n\
     change 2 0 0 0:z - - invalid\n\
@@ -391,7 +391,7 @@ pub const BOUNDS: &str = "\
     change 6 1 0 0:z - 32:f:0/g:0/h:0/i:0/j:0/k:0/n:0/l:0/m:0/o:0/p:0/q:0/r:0/s:0/t:0/u:0 valid\n\
     change 7 1 1000000 1000000:b - - valid\n\
     change 8 1 999984 999984:b 1000000:d:0 1000000:d:0 valid\n\
-    case valid-low-and-c 3\n\
+    case 3 valid-low-and-c\n\
     change 0 1 8 8:d - - invalid\n\
     change 1 1 0 16:d - - invalid\n\
     change 2 1 16 0:z,16:d - - invalid\n\
@@ -402,7 +402,7 @@ pub const BOUNDS: &str = "\
     change 7 1 16 16:d,48:e - - valid\n\
     change 8 1 0 0:d - - invalid\n\
     change 9 1 16 16:z,32:z - - valid\n\
-    case valid-p 3\n\
+    case 3 valid-p\n\
     change 0 1 0 0:z 2:d:0,1:d:0 - invalid\n\
     change 1 1 0 0:z 1:d:0,1:e:0 - invalid\n\
     change 2 1 0 0:z 33:d:0 - invalid\n\
@@ -412,7 +412,7 @@ pub const BOUNDS: &str = "\
     change 6 2 0 0:z 1:d:3 - invalid\n\
     change 7 2 0 0:z 1:d:1 - valid\n\
     change 8 1 0 0:z 1000000:d:0 - invalid\n\
-    case valid-q 3\n\
+    case 3 valid-q\n\
     change 0 1 0 0:z - 2:d:0,1:d:0 invalid\n\
     change 1 1 0 0:z - 1:d:0,1:e:0 invalid\n\
     change 2 1 0 0:z - 33:d:0 invalid\n\
@@ -425,7 +425,7 @@ pub const BOUNDS: &str = "\
 
 /// The same, with new views.
 pub const AGREEMENTS: &str = "\
-    case agrees 1\n\
+    case 1 agrees\n\
     change 0 1 0 0:z 1:d:0 1:d:0 valid\n\
     change 1 1 0 0:z 1:d:0 1:d:0 valid\n\
     change 2 1 0 0:z - - valid\n\
@@ -444,7 +444,7 @@ pub const AGREEMENTS: &str = "\
     new 1 0:v,0:v,2:w 0 z d no\n\
     new 1 0:v,1:v,3:w 0 z d no\n\
     new 1 0:v,1:v,2:v 0 z d no\n\
-    case agrees-with-four 1\n\
+    case 1 agrees-with-four\n\
     change 0 6 0 0:z 1:d:0 1:d:0 valid\n\
     change 1 6 0 0:z 1:d:0 1:d:0 valid\n\
     change 2 6 0 0:z 1:e:5 1:e:5 valid\n\
@@ -453,27 +453,27 @@ pub const AGREEMENTS: &str = "\
     new 6 0:x,1:x,2:y,3:x 0 z d yes\n\
     new 6 0:x,1:x,2:y,3:x 0 z e no\n\
     new 6 0:x,1:x,3:x 0 z d no\n\
-    case agrees-needs-rising-senders 1\n\
+    case 1 agrees-needs-rising-senders\n\
     change 2 1 0 0:z 1:d:0 1:d:0 valid\n\
     change 0 1 0 0:z 1:d:0 1:d:0 valid\n\
     change 1 1 0 0:z - - valid\n\
     choice 0 z d\n\
     new 1 2:v,0:v,1:w 0 z d no\n\
     new 1 0:v,1:w,2:v 0 z d no\n\
-    case agrees-needs-different-senders 1\n\
+    case 1 agrees-needs-different-senders\n\
     change 0 1 0 0:z 1:d:0 1:d:0 valid\n\
     change 0 1 0 0:z 1:d:0 1:d:0 valid\n\
     change 1 1 0 0:z - - valid\n\
     choice 0 z d\n\
     new 1 0:v,0:v,1:w 0 z d no\n\
-    case agrees-needs-changes-for-its-view 1\n\
+    case 1 agrees-needs-changes-for-its-view\n\
     change 0 2 0 0:z 1:d:0 1:d:0 valid\n\
     change 1 1 0 0:z 1:d:0 1:d:0 valid\n\
     change 2 1 0 0:z - - valid\n\
     choice 0 z d\n\
     new 1 0:A,1:v,2:w 0 z d no\n\
     new 2 0:A,1:v,2:w 0 z d no\n\
-    case agrees-never-where-undecided 1\n\
+    case 1 agrees-never-where-undecided\n\
     change 0 6 0 0:z 1:d:0 1:d:0 valid\n\
     change 1 6 0 0:z 1:d:0 1:d:0 valid\n\
     change 2 6 0 0:z 1:e:5 1:e:5 valid\n\
@@ -482,12 +482,12 @@ pub const AGREEMENTS: &str = "\
     new 6 0:x,1:x,2:y 0 z e no\n\
     new 6 0:x,1:x,2:y 0 z n no\n\
     new 6 0:x,1:x,2:y 0 z - no\n\
-    case agrees-needs-a-quorum 1\n\
+    case 1 agrees-needs-a-quorum\n\
     change 0 1 0 0:z 1:d:0 1:d:0 valid\n\
     change 1 1 0 0:z 1:d:0 1:d:0 valid\n\
     undecided 0\n\
     new 1 0:v,1:v 0 z d no\n\
-    case agrees-above-a-checkpoint 1\n\
+    case 1 agrees-above-a-checkpoint\n\
     change 1 1 0 0:z,16:b - - valid\n\
     change 2 1 0 0:z,16:b - - valid\n\
     change 3 1 16 16:b - - valid\n\
@@ -496,7 +496,7 @@ pub const AGREEMENTS: &str = "\
     new 1 1:B,2:B,3:C 0 z - no\n\
     new 1 1:B,2:B,3:C 16 c - no\n\
     new 1 1:B,2:B,3:C 16 b n no\n\
-    case agrees-f-0 0\n\
+    case 0 agrees-f-0\n\
     change 0 1 0 0:z 1:d:0 1:d:0 valid\n\
     choice 0 z d\n\
     new 1 0:v 0 z d yes\n\
