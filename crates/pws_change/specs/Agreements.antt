@@ -1,0 +1,23 @@
+-- When a new view agrees with the view changes that it names; this project's own.
+use Rattle.std.specs.Prelude.{◌≡◌, ℕ, ◌≤◌, List, length, map, nat_lt, IsTrue, ◌==◌}
+use Rattle.std.specs.List.{list_all}
+use Rattle.pws_base.specs.Shapes.{quorum_of}
+use Rattle.pws_msg.specs.declared.changes.Named.{Named}
+use Rattle.pws_msg.specs.declared.changes.NewView.{NewView}
+use Rattle.pws_change.specs.declared.heard.Heard.{Heard}
+use Rattle.pws_change.specs.declared.decisions.Decision.TheVariants.{Chosen}
+use Rattle.pws_change.specs.Choices.{IsChoice}
+use Rattle.pws_change.specs.Rising.{rises}
+
+-- the index and the digest of a change
+abbrev pub name_of : Heard → Named
+name_of h = record { index = h.index; digest = h.digest }
+
+-- the named pairs rise by index, are a quorum or more, and are those of the changes in order; each change is for the
+-- view, and the choice is theirs
+pub record Agrees (f : ℕ) (new : NewView) (changes : List Heard) : Type 0 where
+  pub rises : IsTrue (rises (λ a b. nat_lt a.index b.index) new.named)
+  pub many : quorum_of f ≤ length new.named
+  pub named : new.named ≡ map name_of changes
+  pub views : IsTrue (list_all (λ h. h.change.view == new.view) changes)
+  pub choice : IsChoice f changes (Chosen new.choice)
