@@ -1,0 +1,4 @@
+//! Why agreement holds.
+#![tactic(auto)]
+
+pub mod laws;
