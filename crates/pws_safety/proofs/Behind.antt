@@ -50,12 +50,15 @@ named_from (x ∷ S) n k =
 pub agreed_rises : (f : ℕ) (new : NewView) (S : List Heard) → Agrees f new S → rises (λ (a b : Heard). nat_lt a.index b.index) S ≡ true
 agreed_rises f new S a = sym (rises_named S) ∙ subst (λ ns. rises (λ (a b : Named). nat_lt a.index b.index) ns ≡ true) a.named a.rises
 
+pub agreed_view : (f : ℕ) (new : NewView) (S : List Heard) → Agrees f new S → (h : Heard) → Contains S h → h.change.view ≡ new.view
+agreed_view f new S a h k = eqb-true _ _ (all_has (λ (h : Heard). h.change.view == new.view) S a.views h k)
+
 -- view changes are for views above 0
-pub behind_view : (g : Group) (sent : Sent) (w : ℕ) (S : List Heard) (c : Choice) → IsBehind g sent w S c → 0 < w
-behind_view g sent w S c b =
-    let r = count_some (is_low_by c.place) S (omega (arith, b.is_choice.start.may.reached)) in
+pub behind_view : (g : Group) (sent : Sent) (new : NewView) (S : List Heard) → IsBehind g sent new S → 0 < new.view
+behind_view g sent new S b =
+    let r = count_some (is_low_by new.choice.place) S (omega (arith, b.agrees.choice.start.may.reached)) in
     let v = leb-true _ _ (b.valid r.0 r.1).view in
-    let e = b.in_view r.0 r.1 in
+    let e = agreed_view g.f new S b.agrees r.0 r.1 in
     omega (arith, v, e)
 
 module _ (g : Group) (sent : Sent) (few : IsSound g.f g.compromised) where
@@ -78,16 +81,14 @@ module _ (g : Group) (sent : Sent) (few : IsSound g.f g.compromised) where
       (r.0, (r.1, elim (and_cases (not (m == r.0)) (g.compromised r.0) o) [ inl e ↦ absurd (q.0 (sym (eqb-true m r.0 (not-false (m == r.0) e)))) | inr e ↦ e ]), q.1)
 
   -- from view changes that were heard themselves
-  pub behind_heard : (w : ℕ) (new : NewView) (S : List Heard) → new.view ≡ w → Agrees g.f new S
+  pub behind_heard : (w : ℕ) (new : NewView) (S : List Heard) → Agrees g.f new S
       → ((h : Heard) → Contains S h → (g.digest_of h.change ≡ h.digest) × IsHeard g sent w h.index h.change)
-      → IsBehind g sent w S new.choice
-  behind_heard w new S view agrees heard = record {
-    rises = agreed_rises g.f new S agrees;
+      → IsBehind g sent new S
+  behind_heard w new S agrees heard = record {
+    agrees = agrees;
     replica = λ h k. (heard h k).1.replica;
-    in_view = λ h k. (heard h k).1.in_view;
     valid = λ h k. (heard h k).1.valid;
     sent_it = λ h k good. sure h.index (say.ViewChange h.change) good (heard h k).1.told;
-    is_choice = agrees.choice;
   }
 
   module _ (no_collision : NoCollision g)
@@ -115,12 +116,10 @@ module _ (g : Group) (sent : Sent) (few : IsSound g.f g.compromised) where
         ]
 
     -- from view changes that were had
-    pub behind_had : (w : ℕ) (new : NewView) (S : List Heard) → Told g sent (primary g w) (say.NewView new) → new.view ≡ w → Agrees g.f new S → ((h : Heard) → Contains S h → IsHad g sent w h) → IsBehind g sent w S new.choice
+    pub behind_had : (w : ℕ) (new : NewView) (S : List Heard) → Told g sent (primary g w) (say.NewView new) → new.view ≡ w → Agrees g.f new S → ((h : Heard) → Contains S h → IsHad g sent w h) → IsBehind g sent new S
     behind_had w new S told view agrees had = record {
-      rises = agreed_rises g.f new S agrees;
+      agrees = agrees;
       replica = λ h k. (had h k).replica;
-      in_view = λ h k. (had h k).in_view;
       valid = λ h k. (had h k).valid;
       sent_it = λ h k good. had_is_sent w new h told view (subst (λ ns. Contains ns (name_of h)) (sym agrees.named) (named_has S h k)) (had h k) good;
-      is_choice = agrees.choice;
     }

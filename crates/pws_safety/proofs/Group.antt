@@ -57,7 +57,7 @@ module _ (g : Group) (occurs : ViewChange → Bool) (backed : List ℕ → Bool)
   stood_back me said v p d s = (s.0, s.1, stands_back me s.0 v p d s.2)
 
   tells_same : (me : ℕ) (said : List Statement) (c : ViewChange) → TellsTrue g me said c → TellsTrue grown me said c
-  tells_same me said c t = record { row_said = t.row_said; row_latest = t.row_latest; seen_stood = λ q h e k. stood_same me said e.view q.place e.digest (t.seen_stood q h e k) }
+  tells_same me said c t = record { row_said = t.row_said; row_earlier = t.row_earlier; row_latest = t.row_latest; seen_stood = λ q h e k. stood_same me said e.view q.place e.digest (t.seen_stood q h e k); seen_earlier = t.seen_earlier }
 
   backs_more : (k v p : ℕ) (d : List ℕ) → Backs g before k v p d → Backs grown after k v p d
   backs_more k v p d b = elim b [ inl e ↦ inl e | inr s ↦ inr (s.0, stays k s.0 s.1, stands_same k s.0 v p d s.2) ]
@@ -65,13 +65,13 @@ module _ (g : Group) (occurs : ViewChange → Bool) (backed : List ℕ → Bool)
   heard_more : (v j : ℕ) (c : ViewChange) → IsHeard g before v j c → IsHeard grown after v j c
   heard_more v j c h = record { replica = h.replica; told = told_more j (say.ViewChange c) h.told; in_view = h.in_view; valid = h.valid; occurs = more c h.occurs }
 
-  grounds_more : (w : ℕ) (c : Choice) → HasGrounds g before w c → HasGrounds grown after w c
-  grounds_more w c r = (r.0, record { rises = r.1.rises; replica = r.1.replica; in_view = r.1.in_view; valid = r.1.valid; sent_it = λ h k b. stays _ _ (r.1.sent_it h k b); is_choice = r.1.is_choice })
+  grounds_more : (new : NewView) → HasGrounds g before new → HasGrounds grown after new
+  grounds_more new r = (r.0, record { agrees = r.1.agrees; replica = r.1.replica; valid = r.1.valid; sent_it = λ h k b. stays _ _ (r.1.sent_it h k b) })
 
   reason_more : (v p : ℕ) (d : List ℕ) → HasReason g before v p d → HasReason grown after v p d
   reason_more v p d r = record {
     first = λ e. more_backed d (r.first e);
-    later = λ pos. (let k = r.later pos in (k.0, grounds_more v k.0 k.1, elim k.2 [ inl x ↦ inl x | inr x ↦ inr (x.0, more_backed d x.1) ]));
+    later = λ pos. (let k = r.later pos in (k.0, k.1, grounds_more k.0 k.2, elim k.3 [ inl x ↦ inl x | inr x ↦ inr (x.0, more_backed d x.1) ]));
   }
 
   keeps_more : (me : ℕ) (s : Core) → Keeps g before me s → Keeps grown after me s
@@ -91,7 +91,7 @@ module _ (g : Group) (occurs : ViewChange → Bool) (backed : List ℕ → Bool)
     behind_commit = λ v p d h. let r = l.behind_commit v p d h in (r.0, r.1, λ i il k. backs_more i v p d (r.2 i il k));
     state_true = tells_same me s.said (report_of s s.view [] s.prepared s.pre_prepared) l.state_true;
     changes_true = λ c h. tells_same me s.said c (l.changes_true c h);
-    entered = λ a pos. let r = l.entered a pos in (r.0, r.1, grounds_more s.view r.0.choice r.2, r.3);
+    entered = λ a pos. let r = l.entered a pos in (r.0, r.1, r.2, grounds_more r.0 r.3, r.4);
     reason = λ v p d st. reason_more v p d (l.reason v p d (stood_back me s.said v p d st));
     acked = λ v j d h. let r = l.acked v j d h in (r.0, heard_more v j r.0 r.1, r.2);
     named = λ n h m k. let r = l.named n h m k in (r.0, heard_more n.view m.index r.0 r.1, r.2);
@@ -112,8 +112,8 @@ module _ (g : Group) (before after : Sent) (stays : (k : ℕ) (x : Statement) �
   heard_later : (v j : ℕ) (c : ViewChange) → IsHeard g before v j c → IsHeard g after v j c
   heard_later v j c h = heard_more g g.occurs g.backed before after (λ c h. h) (λ d h. h) stays v j c h
 
-  grounds_later : (w : ℕ) (c : Choice) → HasGrounds g before w c → HasGrounds g after w c
-  grounds_later w c r = grounds_more g g.occurs g.backed before after (λ c h. h) (λ d h. h) stays w c r
+  grounds_later : (new : NewView) → HasGrounds g before new → HasGrounds g after new
+  grounds_later new r = grounds_more g g.occurs g.backed before after (λ c h. h) (λ d h. h) stays new r
 
   keeps_later : (me : ℕ) (s : Core) → Keeps g before me s → Keeps g after me s
   keeps_later me s l = keeps_more g g.occurs g.backed before after (λ c h. h) (λ d h. h) stays me s l
@@ -130,15 +130,15 @@ module _ (g : Group) (trusted : IsTrusted g) (cores : ℕ → Core) (before afte
   fresh : (s : Core) (p : ℕ) (d : List ℕ) → Keeps g after me s → s.active ≡ true → s.floor < p → g.backed d ≡ true → HasReason g after s.view p d
   fresh s p d l active over backed = record {
     first = λ _. backed;
-    later = λ pos. let r = l.entered active pos in (r.0.choice, r.2, inr (omega (arith, over, r.3), backed));
+    later = λ pos. let r = l.entered active pos in (r.0, r.2, r.3, inr (omega (arith, over, r.4), backed));
   }
 
   free_next : (s : Core) (p : ℕ) → Keeps g after me s → p ≡ max s.floor s.last + 1 → (e : List ℕ) → Stood g me s.said s.view p e → ⊥
-  free_next s p l at e st = elim (l.in_view p e st) [ inl a ↦ omega (arith, at, a) | inr a ↦ omega (arith, at, a.0) ]
+  free_next s p l at e st = elim (l.in_view p e st) [ inl a ↦ omega (arith, at, a.0) | inr a ↦ omega (arith, at, a.1) ]
 
   free_slot : (s : Core) (p : ℕ) → Keeps g after me s → s.floor < p → s.low < p → s.slot p ≡ None → (e : List ℕ) → Stood g me s.said s.view p e → ⊥
   free_slot s p l over inside free e st =
-      elim (l.in_view p e st) [ inl a ↦ omega (arith, a, over) | inr a ↦ (let k = a.1 inside in none_some k.0 (sym free ∙ k.1)) ]
+      elim (l.in_view p e st) [ inl a ↦ omega (arith, a.0, over) | inr a ↦ (let k = a.2 inside in none_some k.0 (sym free ∙ k.1)) ]
 
   -- the primary's own word
   lead_backs : (v p : ℕ) (d : List ℕ) → Told g after (primary g v) (PrePrepare v p d) → Backs g after (primary g v) v p d
@@ -156,7 +156,7 @@ module _ (g : Group) (trusted : IsTrusted g) (cores : ℕ → Core) (before afte
   all_told v p d k many = at_least_weaker (size g) k (λ i. Told g before i (Commit v p d)) (λ i. Told g after i (Commit v p d)) (λ i t. told_later g before after stays i (Commit v p d) t) many
 
   enters_backup : (s : Core) (new : NewView) (slots : ℕ → Option Slot) (last : ℕ) (says : List Statement) (l : Keeps g after me s) (still : s.active ≡ false) → new.view ≡ s.view
-      → Told g after (primary g s.view) (say.NewView new) → HasGrounds g after s.view new.choice → AcceptsChosen s new slots last → PreparesChosen s new slots says
+      → Told g after (primary g s.view) (say.NewView new) → HasGrounds g after new → AcceptsChosen s new slots last → PreparesChosen s new slots says
       → Enters g after me s new slots last says l still
   enters_backup s new slots last says l still view told grounds accepts prepares = record {
     said_view = λ x h. let r = prepares.only x h in ap view_of r.2;
@@ -168,12 +168,13 @@ module _ (g : Group) (trusted : IsTrusted g) (cores : ℕ → Core) (before afte
         (sym t.0, subst (λ y. Gives new.choice p y) t.2 (subst (λ y. Gives new.choice y r.1) t.1 r.3)));
     slot_new = λ p t h. (let r = accepts p t h in
         (r.0, r.3, (Prepare s.view p t.digest, prepares.each p t h, (refl, refl, refl)), start_backs s.view p t.digest new view r.2 told));
+    in_view = view;
     grounds = grounds;
   }
 
   enters_primary : (s : Core) (new : NewView) (heard : List Heard) (slots : ℕ → Option Slot) (last : ℕ) (l : Keeps g after me s) (still : s.active ≡ false) → me ≡ primary g s.view → new.view ≡ s.view
       → Contains after (me, say.NewView new) → Agrees g.f new heard → ((h : Heard) → Contains heard h → (g.digest_of h.change ≡ h.digest) × IsHeard g before s.view h.index h.change)
-      → HasGrounds g after s.view new.choice → AcceptsChosen s new slots last
+      → HasGrounds g after new → AcceptsChosen s new slots last
       → Enters g after me s new slots last (say.NewView new ∷ []) l still
   enters_primary s new heard slots last l still lead view own agrees each grounds accepts = record {
     said_view = λ x h. let e = one x h in ap view_of (sym e) ∙ view;
@@ -190,6 +191,7 @@ module _ (g : Group) (trusted : IsTrusted g) (cores : ℕ → Core) (before afte
     said_chosen = λ x h v p d st. (let t = subst (λ y. StandsBy g me y v p d) (sym (one x h)) st in (sym t.0 ∙ view, t.1));
     slot_new = λ p t h. (let r = accepts p t h in
         (r.0, r.3, (say.NewView new, here (say.NewView new) [], (view, r.2, lead)), start_backs s.view p t.digest new view r.2 (inr (subst (λ k. Contains after (k, say.NewView new)) lead own))));
+    in_view = view;
     grounds = grounds;
   }
     where
@@ -200,10 +202,10 @@ module _ (g : Group) (trusted : IsTrusted g) (cores : ℕ → Core) (before afte
   kept_step : (s n : Core) → Keeps g after me s → ((x : Statement) → Contains n.said x → Contains after (me, x)) → Step g before me s n → Keeps g after me n
   kept_step s n l own (propose s2 p d active lead at inside backed) =
       let x = PrePrepare s.view p d in
-      kept_accept g after me s p d x l (propose_pledge g me s.view p d lead) (free_next s p l at) active inside
+      kept_accept g after me s p d x l (propose_pledge g me s.view p d lead) (omega (arith, at)) (free_next s p l at) active inside
       (lead_backs s.view p d (inr (subst (λ k. Contains after (k, x)) lead (own x (here x s.said))))) (fresh s p d l active (omega (arith, at)) backed)
   kept_step s n l own (accept s2 p d active other over inside free backed told) =
-      kept_accept g after me s p d (Prepare s.view p d) l (prepare_pledge g me s.view p d) (free_slot s p l over inside free) active inside
+      kept_accept g after me s p d (Prepare s.view p d) l (prepare_pledge g me s.view p d) over (free_slot s p l over inside free) active inside
       (lead_backs s.view p d (told_later g before after stays (primary g s.view) (PrePrepare s.view p d) told)) (fresh s p d l active over backed)
   kept_step s n l own (prepare s2 p d active at many) = kept_prepare g after me s p d l at active (others_back s.view p d many)
   kept_step s n l own (commit s2 p d active at many) = kept_commit g after me s p d l at active (all_told s.view p d _ many)
@@ -211,15 +213,15 @@ module _ (g : Group) (trusted : IsTrusted g) (cores : ℕ → Core) (before afte
   kept_step s n l own (move s2 w points rows pairs up t) = kept_move g after me s w points rows pairs l up t
   kept_step s n l own (ack s2 j c still heard) = kept_ack g after me s j c l (heard_later g before after stays s.view j c heard)
   kept_step s n l own (offer s2 new heard slots last still lead view agrees each accepts) =
-      let b = behind_heard g before trusted.sound s.view new heard view agrees each in
+      let b = behind_heard g before trusted.sound s.view new heard agrees each in
       kept_enter g after me s new slots last (say.NewView new ∷ []) l still
-      (enters_primary s new heard slots last l still lead view (own (say.NewView new) (here (say.NewView new) s.said)) agrees each (grounds_later g before after stays s.view new.choice (heard, b)) accepts)
-      (behind_view g before s.view heard new.choice b)
+      (enters_primary s new heard slots last l still lead view (own (say.NewView new) (here (say.NewView new) s.said)) agrees each (grounds_later g before after stays new (heard, b)) accepts)
+      (let pos = behind_view g before new heard b in omega (arith, pos, view))
   kept_step s n l own (enter s2 new heard slots last says still other view told agrees had accepts prepares) =
       let b = behind_had g before trusted.sound trusted.no_collision acks names s.view new heard told view agrees had in
       kept_enter g after me s new slots last says l still
-      (enters_backup s new slots last says l still view (told_later g before after stays (primary g s.view) (say.NewView new) told) (grounds_later g before after stays s.view new.choice (heard, b)) accepts prepares)
-      (behind_view g before s.view heard new.choice b)
+      (enters_backup s new slots last says l still view (told_later g before after stays (primary g s.view) (say.NewView new) told) (grounds_later g before after stays new (heard, b)) accepts prepares)
+      (let pos = behind_view g before new heard b in omega (arith, pos, view))
 
 new_keeps : (g : Group) (sent : Sent) (me : ℕ) → Keeps g sent me new_core
 new_keeps g sent me = record {
@@ -236,7 +238,7 @@ new_keeps g sent me = record {
   slot_commit = λ p t e. absurd (none_some t e);
   slot_quorum = λ p t e. absurd (none_some t e);
   behind_commit = λ v p d h. absurd (nowhere (Commit v p d) h);
-  state_true = record { row_said = λ r h. absurd (nowhere r h); row_latest = λ v p d h. absurd (nowhere (Commit v p d) h); seen_stood = λ q h. absurd (nowhere q h) };
+  state_true = record { row_said = λ r h. absurd (nowhere r h); row_earlier = λ r h. absurd (nowhere r h); row_latest = λ v p d h. absurd (nowhere (Commit v p d) h); seen_stood = λ q h. absurd (nowhere q h); seen_earlier = λ q h. absurd (nowhere q h) };
   changes_true = λ c h. absurd (nowhere (say.ViewChange c) h);
   entered = λ a pos. absurd (omega arith);
   reason = λ v p d st. absurd (nowhere st.0 st.1);
@@ -280,7 +282,7 @@ kept_gives_facts g cores sent sound kept =
       };
       commit_has_quorum = λ i v p d ci h. (kept.each i ci).behind_commit v p d (kept.only_said i ci _ h);
       reports_its_commits = record {
-        row_is_commit = λ i c ci h r k. kept.said i ci _ ((told i c ci h).row_said r k);
+        row_is_commit = λ i c ci h r k. ((told i c ci h).row_earlier r k, kept.said i ci _ ((told i c ci h).row_said r k));
         row_is_latest = λ i c ci h v p d k below lw. (told i c ci h).row_latest v p d (kept.only_said i ci _ k) below lw;
         seen_stands = λ i c ci h q k e j. out i ci e.view q.place e.digest ((told i c ci h).seen_stood q k e j);
       };

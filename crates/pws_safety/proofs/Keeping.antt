@@ -17,24 +17,24 @@ use Rattle.pws_safety.specs.Statement.{Statement, PrePrepare, Prepare, Commit, A
 use Rattle.pws_safety.specs.Statement as say
 use Rattle.pws_safety.specs.Statements.{Group, Sent, Told, Gives, StandsBy, Backs, size, primary}
 use Rattle.pws_safety.specs.Voters.{Slot, Core, accepted, with_slot, above, after_accept, after_prepare, after_commit, after_lower, report_of, after_move, after_enter, IsTrimmed, IsNoted, IsHeard}
-use Rattle.pws_safety.specs.Kept.{Stood, TellsTrue, HasGrounds, HasReason, Keeps}
+use Rattle.pws_safety.specs.Kept.{Stood, TellsTrue, HasGrounds, HasReason, IsChosenIn, IsFreshIn, Keeps}
 use Rattle.pws_safety.proofs.Members.{here, there, first_or_rest}
 use Rattle.pws_safety.proofs.Slots.{some_same, none_some, slot_here, slot_other, each_slot, above_is, above_kept, with_one, stood_split, stood_more, stands_view, Pledge, commit_old, change_old, ack_old, new_old, tells_more}
 
 module _ (g : Group) (sent : Sent) (me : ℕ) where
   -- it accepts a digest where it stood for none
-  module _ (s : Core) (p : ℕ) (d : List ℕ) (x : Statement) (l : Keeps g sent me s) (pl : Pledge g me x s.view p d) (free : (e : List ℕ) → Stood g me s.said s.view p e → ⊥) where
+  module _ (s : Core) (p : ℕ) (d : List ℕ) (x : Statement) (l : Keeps g sent me s) (pl : Pledge g me x s.view p d) (over : s.floor < p) (free : (e : List ℕ) → Stood g me s.said s.view p e → ⊥) where
     old_elsewhere : (q : ℕ) (e : List ℕ) → Stood g me s.said s.view q e → q ≡ p → ⊥
     old_elsewhere q e o h = free e (subst (λ y. Stood g me s.said s.view y e) h o)
 
     accept_in_view : (q : ℕ) (e : List ℕ) → Stood g me (x ∷ s.said) s.view q e
-        → (q ≤ s.floor) ⊎ ((q ≤ max s.last p) × (s.low < q → (t : Slot) × (with_slot s.slot p (accepted d) q ≡ Some t) × (t.digest ≡ e)))
+        → IsChosenIn (after_accept s p d x) q e ⊎ IsFreshIn (after_accept s p d x) q e
     accept_in_view q e st =
         elim (stood_split g me x s.said s.view q e st) [
-          | inl b ↦ (let k = pl.only s.view q e b in inr (omega (arith, k.1), λ _. (accepted d, slot_here s.slot p q _ k.1, sym k.2)))
+          | inl b ↦ (let k = pl.only s.view q e b in inr (omega (arith, k.1, over), omega (arith, k.1), λ _. (accepted d, slot_here s.slot p q _ k.1, sym k.2)))
           | inr o ↦ elim (l.in_view q e o) [
             | inl a ↦ inl a
-            | inr a ↦ inr (omega (arith, a.0), λ lw. let t = a.1 lw in (t.0, slot_other s.slot p q _ (old_elsewhere q e o) ∙ t.1, t.2))
+            | inr a ↦ inr (a.0, omega (arith, a.1), λ lw. let t = a.2 lw in (t.0, slot_other s.slot p q _ (old_elsewhere q e o) ∙ t.1, t.2))
           ]
         ]
 
@@ -100,13 +100,14 @@ module _ (g : Group) (sent : Sent) (me : ℕ) where
     same_slot t e = some_same (accepted d) t (sym at ∙ e)
 
     prepare_in_view : (q : ℕ) (e : List ℕ) → Stood g me (Commit s.view p d ∷ s.said) s.view q e
-        → (q ≤ s.floor) ⊎ ((q ≤ s.last) × (s.low < q → (t : Slot) × (with_slot s.slot p prepared_slot q ≡ Some t) × (t.digest ≡ e)))
+        → IsChosenIn (after_prepare s p d) q e ⊎ IsFreshIn (after_prepare s p d) q e
     prepare_in_view q e st =
         elim (l.in_view q e (prepare_stood s.view q e st)) [
           | inl a ↦ inl a
           | inr a ↦ inr (
             a.0,
-            λ lw. let t = a.1 lw in
+            a.1,
+            λ lw. let t = a.2 lw in
                 elim (cases_eq q p) [
                   | inl k ↦ (prepared_slot, slot_here s.slot p q _ k, ap (λ (y : Slot). y.digest) (same_slot t.0 (subst (λ y. s.slot y ≡ Some t.0) k t.1)) ∙ t.2)
                   | inr k ↦ (t.0, slot_other s.slot p q _ k ∙ t.1, t.2)
@@ -186,7 +187,7 @@ module _ (g : Group) (sent : Sent) (me : ℕ) where
           no_later = l.no_later;
           idle = l.idle;
           idle_slots = λ i. absurd (true≢false (sym active ∙ i));
-          in_view = λ q e st. elim (l.in_view q e st) [ inl a ↦ inl a | inr a ↦ inr (a.0, λ lw. commit_same q e (a.1 lw)) ];
+          in_view = λ q e st. elim (l.in_view q e st) [ inl a ↦ inl a | inr a ↦ inr (a.0, a.1, λ lw. commit_same q e (a.2 lw)) ];
           one_digest = l.one_digest;
           one_change = l.one_change;
           slot_above = each_slot (λ q t. s.low < q) s.slot p committed_slot (l.slot_above p _ at) l.slot_above;
@@ -211,7 +212,7 @@ module _ (g : Group) (sent : Sent) (me : ℕ) where
         no_later = l.no_later;
         idle = l.idle;
         idle_slots = λ i q x e. l.idle_slots i q x (above_is s.slot low q x e).1;
-        in_view = λ q e st. elim (l.in_view q e st) [ inl a ↦ inl a | inr a ↦ inr (a.0, λ lw. let k = a.1 (omega (arith, lw)) in (k.0, above_kept s.slot low q lw ∙ k.1, k.2)) ];
+        in_view = λ q e st. elim (l.in_view q e st) [ inl a ↦ inl a | inr a ↦ inr (a.0, a.1, λ lw. let k = a.2 (omega (arith, lw)) in (k.0, above_kept s.slot low q lw ∙ k.1, k.2)) ];
         one_digest = l.one_digest;
         one_change = l.one_change;
         slot_above = λ q x e. (above_is s.slot low q x e).0;
@@ -223,8 +224,10 @@ module _ (g : Group) (sent : Sent) (me : ℕ) where
         behind_commit = l.behind_commit;
         state_true = record {
           row_said = λ r k. l.state_true.row_said r (t.prepared_old r k);
+          row_earlier = λ r k. l.state_true.row_earlier r (t.prepared_old r k);
           row_latest = λ v q e k a lw. (let r = l.state_true.row_latest v q e k a (omega (arith, lw)) in (r.0, t.prepared_kept r.0 r.1 (omega (arith, lw, r.2)), r.2, r.3));
           seen_stood = λ q k. l.state_true.seen_stood q (t.pre_prepared_old q k);
+          seen_earlier = λ q k. l.state_true.seen_earlier q (t.pre_prepared_old q k);
         };
         changes_true = l.changes_true;
         entered = l.entered;
@@ -280,10 +283,19 @@ module _ (g : Group) (sent : Sent) (me : ℕ) where
           | inr a ↦ subst (λ y. Stood g me s.said y q.place e.digest) (sym a.3) (subst (λ y. Stood g me s.said s.view q.place y) (sym a.2) (l.slot_stood q.place a.0 a.1))
         ])
 
+    move_row_earlier : (r : PRow) → Contains rows r → r.view < w
+    move_row_earlier r h = elim (t.from r h) [ inl k ↦ (let y = l.state_true.row_earlier r k in omega (arith, y, up)) | inr k ↦ omega (arith, k.4, up) ]
+
+    move_seen_earlier : (q : QRow) → Contains pairs q → (e : Seen) → Contains q.digests e → e.view < w
+    move_seen_earlier q h e k = elim (t.seen q h e k) [ inl a ↦ (let y = l.state_true.seen_earlier a.0 a.1 e a.3 in omega (arith, y, up)) | inr a ↦ omega (arith, a.3, up) ]
+
+    move_true : TellsTrue g me move_said own_change
+    move_true = record { row_said = move_row; row_earlier = move_row_earlier; row_latest = move_latest; seen_stood = move_seen; seen_earlier = move_seen_earlier }
+
     move_changes : (c : ViewChange) → Contains move_said (say.ViewChange c) → TellsTrue g me move_said c
     move_changes c h =
         elim (first_or_rest (say.ViewChange own_change) (say.ViewChange c) s.said h) [
-          | inl e ↦ (let k : own_change ≡ c = cc in subst (λ y. TellsTrue g me move_said y) k (record { row_said = move_row; row_latest = move_latest; seen_stood = move_seen }))
+          | inl e ↦ (let k : own_change ≡ c = cc in subst (λ y. TellsTrue g me move_said y) k move_true)
           | inr k ↦ tells_more g me (say.ViewChange own_change) s.said c (λ v q e j. absurd (let i : ◌≡◌ {A = Statement} (say.ViewChange own_change) (Commit v q e) = j in cc)) (l.changes_true c k)
         ]
 
@@ -320,7 +332,7 @@ module _ (g : Group) (sent : Sent) (me : ℕ) where
           slot_commit = λ q x e. absurd (none_some x e);
           slot_quorum = λ q x e. absurd (none_some x e);
           behind_commit = λ v q e h. l.behind_commit v q e (move_commit v q e h);
-          state_true = record { row_said = move_row; row_latest = move_latest; seen_stood = move_seen };
+          state_true = record { row_said = move_row; row_earlier = move_row_earlier; row_latest = move_latest; seen_stood = move_seen; seen_earlier = move_seen_earlier };
           changes_true = move_changes;
           entered = λ a. absurd (false≢true a);
           reason = λ v q e st. l.reason v q e (move_stood v q e st);
@@ -387,7 +399,8 @@ module _ (g : Group) (sent : Sent) (me : ℕ) where
       pub said_new : (n : NewView) → Contains xs (say.NewView n) → (m : Named) → Contains n.named m → (c : ViewChange) × IsHeard g sent n.view m.index c × (g.digest_of c ≡ m.digest)
       pub said_chosen : (x : Statement) → Contains xs x → (v p : ℕ) (d : List ℕ) → StandsBy g me x v p d → (v ≡ s.view) × Gives new.choice p d
       pub slot_new : (p : ℕ) (t : Slot) → slots p ≡ Some t → (s.low < p) × (t ≡ accepted t.digest) × Stood g me xs s.view p t.digest × Backs g sent (primary g s.view) s.view p t.digest
-      pub grounds : HasGrounds g sent s.view new.choice
+      pub in_view : new.view ≡ s.view
+      pub grounds : HasGrounds g sent new
 
     module _ (t : Enters) where
       enter_split : (v q : ℕ) (e : List ℕ) → Stood g me (xs ++ s.said) v q e → ((v ≡ s.view) × Gives new.choice q e) ⊎ Stood g me s.said v q e
@@ -406,8 +419,10 @@ module _ (g : Group) (sent : Sent) (me : ℕ) where
       enter_true : (e : ViewChange) → TellsTrue g me s.said e → TellsTrue g me (xs ++ s.said) e
       enter_true e k = record {
         row_said = λ r h. Contains-append_right xs s.said _ (k.row_said r h);
+        row_earlier = k.row_earlier;
         row_latest = λ v q d h. k.row_latest v q d (enter_commit v q d h);
         seen_stood = λ q h d j. let r = k.seen_stood q h d j in (r.0, Contains-append_right xs s.said _ r.1, r.2);
+        seen_earlier = k.seen_earlier;
       }
 
       enter_none : (v q : ℕ) (e : List ℕ) → v ≡ s.view → Stood g me s.said v q e → ⊥
@@ -423,7 +438,7 @@ module _ (g : Group) (sent : Sent) (me : ℕ) where
       enter_reason : (v q : ℕ) (e : List ℕ) → 0 < s.view → Stood g me (xs ++ s.said) v q e → HasReason g sent v q e
       enter_reason v q e pos st =
           elim (enter_split v q e st) [
-            | inl k ↦ subst (λ y. HasReason g sent y q e) (sym k.0) (record { first = λ z. absurd (omega (arith, z, pos)); later = λ _. (new.choice, t.grounds, inl k.1) })
+            | inl k ↦ subst (λ y. HasReason g sent y q e) (sym k.0) (record { first = λ z. absurd (omega (arith, z, pos)); later = λ _. (new, t.in_view, t.grounds, inl k.1) })
             | inr o ↦ l.reason v q e o
           ]
 
@@ -433,7 +448,7 @@ module _ (g : Group) (sent : Sent) (me : ℕ) where
             no_later = λ y h. elim (Contains-append_cases xs s.said y h) [ inl k ↦ (let e = t.said_view y k in omega (arith, e)) | inr k ↦ l.no_later y k ];
             idle = λ a. absurd (true≢false a);
             idle_slots = λ a. absurd (true≢false a);
-            in_view = λ q e st. elim (enter_split s.view q e st) [ inl k ↦ inl k.1.1 | inr o ↦ absurd (l.idle still q e o) ];
+            in_view = λ q e st. elim (enter_split s.view q e st) [ inl k ↦ inl (k.1.1, (new, refl, k.1)) | inr o ↦ absurd (l.idle still q e o) ];
             one_digest = enter_one;
             one_change = λ a b h k. l.one_change a b (enter_change a h) (enter_change b k);
             slot_above = λ q x h. (t.slot_new q x h).0;
@@ -445,7 +460,7 @@ module _ (g : Group) (sent : Sent) (me : ℕ) where
             behind_commit = λ v q e h. l.behind_commit v q e (enter_commit v q e h);
             state_true = enter_true (report_of s s.view [] s.prepared s.pre_prepared) l.state_true;
             changes_true = λ e h. enter_true e (l.changes_true e (enter_change e h));
-            entered = λ _ _. (new, refl, t.grounds, refl);
+            entered = λ _ _. (new, refl, t.in_view, t.grounds, refl);
             reason = λ v q e st. enter_reason v q e pos st;
             acked = λ v j e h. elim (Contains-append_cases xs s.said _ h) [ inl k ↦ absurd (t.said_ack v j e k) | inr k ↦ l.acked v j e k ];
             named = λ n h. elim (Contains-append_cases xs s.said _ h) [ inl k ↦ t.said_new n k | inr k ↦ l.named n k ];

@@ -125,6 +125,8 @@ module _ (g : Group) (me : ℕ) where
   pub tells_more : (x : Statement) (said : List Statement) (c : ViewChange) → ((v p : ℕ) (d : List ℕ) → x ≡ Commit v p d → c.view ≤ v) → TellsTrue g me said c → TellsTrue g me (x ∷ said) c
   tells_more x said c late t = record {
     row_said = λ r h. there x _ said (t.row_said r h);
+    row_earlier = t.row_earlier;
     row_latest = λ v p d h l a. elim (first_or_rest x (Commit v p d) said h) [ inl e ↦ absurd (let k = late v p d e in omega (arith, k, l)) | inr k ↦ t.row_latest v p d k l a ];
     seen_stood = λ q h e k. stood_more x said e.view q.place e.digest (t.seen_stood q h e k);
+    seen_earlier = t.seen_earlier;
   }

@@ -11,7 +11,7 @@ use Rattle.pws_msg.specs.declared.changes.PRow.{PRow}
 use Rattle.pws_msg.specs.declared.changes.QRow.{QRow}
 use Rattle.pws_msg.specs.declared.changes.Seen.{Seen}
 use Rattle.pws_msg.specs.declared.changes.ViewChange.{ViewChange}
-use Rattle.pws_msg.specs.declared.changes.Choice.{Choice}
+use Rattle.pws_msg.specs.declared.changes.NewView.{NewView}
 use Rattle.pws_change.specs.declared.heard.Heard.{Heard}
 use Rattle.pws_change.specs.declared.decisions.Decision.TheVariants.{Chosen}
 use Rattle.pws_change.specs.Changes.{has_entry, is_witness, is_row_from, covers, lacks}
@@ -23,11 +23,12 @@ use Rattle.pws_safety.specs.Replicas.{AtLeast, sent_one}
 use Rattle.pws_safety.specs.Statement.{Commit}
 use Rattle.pws_safety.specs.Statement as say
 use Rattle.pws_safety.specs.Statements.{Group, Sent, Told, Gives, StandsFor, Backs, IsSettled, IsCorrect, size}
-use Rattle.pws_safety.specs.Kept.{IsBehind, HasReason}
+use Rattle.pws_safety.specs.Kept.{IsBehind, HasGrounds, HasReason}
 use Rattle.pws_safety.specs.Facts.{Facts}
 use Rattle.pws_safety.specs.Agreement.{FactsGiveAgreement, QuorumSettles}
 use Rattle.pws_safety.proofs.Members.{any_has, any_from, all_has, all_from}
 use Rattle.pws_safety.proofs.Counted.{count_disjoint, count_apart, a_correct_one, both_have}
+use Rattle.pws_safety.proofs.Behind.{agreed_rises, agreed_view}
 use Rattle.pws_safety.proofs.Senders.{sent_tells, senders_are_distinct, senders_of}
 
 row_from : (p : ℕ) (d : List ℕ) (v : ℕ) (r : PRow) → r.place ≡ p → (v < r.view) ⊎ ((r.view ≡ v) × (r.digest ≡ d)) → is_row_from p d v r ≡ true
@@ -72,30 +73,30 @@ module _ (law : HardlyLackedIsKept) (g : Group) (sent : Sent) (facts : Facts g s
   has_cover : (i v p : ℕ) (d : List ℕ) (h : Heard) → IsCorrect g i → Contains sent (i, Commit v p d) → Contains sent (i, say.ViewChange h.change) → v < h.change.view → h.change.low < p → covers p d v h ≡ true
   has_cover i v p d h ci a b l above =
       let r = facts.reports_its_commits.row_is_latest i h.change ci b v p d a l above in
-      let k = facts.reports_its_commits.row_is_commit i h.change ci b r.0 r.1 in
+      let k = (facts.reports_its_commits.row_is_commit i h.change ci b r.0 r.1).1 in
       let j : Contains sent (i, Commit r.0.view p r.0.digest) = subst (λ q. Contains sent (i, Commit r.0.view q r.0.digest)) r.2 k in
       let same : r.0.view ≡ v → r.0.digest ≡ d = λ e. one_commit i i v p r.0.digest d ci ci (subst (λ u. Contains sent (i, Commit u p r.0.digest)) e j) a in
       any_from (is_row_from p d v) h.change.prepared r.0 r.1
       (row_from p d v r.0 r.2 (elim (cases_order v r.0.view) [ inl e ↦ inr (sym e, same (sym e)) | inr x ↦ elim x [ inl y ↦ inl y | inr y ↦ absurd (omega (arith, y, r.3)) ] ]))
 
-  few_lack : (v w p : ℕ) (d : List ℕ) (S : List Heard) (c : Choice) → IsSettled g sent v p d → v < w → IsBehind g sent w S c → count_by (lacks p d v) S < quorum_of g.f
-  few_lack v w p d S c settled l b =
+  few_lack : (v p : ℕ) (d : List ℕ) (new : NewView) (S : List Heard) → IsSettled g sent v p d → v < new.view → IsBehind g sent new S → count_by (lacks p d v) S < quorum_of g.f
+  few_lack v p d new S settled l b =
       let apart : (i : ℕ) → i < size g → sent_one (lacks p d v) S i ≡ true → settled.0 i ≡ true → ⊥ = λ i il t k.
       (let r = sent_tells (lacks p d v) S i t in
       let s = settled.2 i il k in
       let e = and_parts (nat_lt r.0.change.low p) (not (covers p d v r.0)) r.3 in
       let good : g.compromised r.0.index ≡ false = subst (λ x. g.compromised x ≡ false) (sym r.2) s.0 in
       let vc : Contains sent (i, say.ViewChange r.0.change) = subst (λ x. Contains sent (x, say.ViewChange r.0.change)) r.2 (b.sent_it r.0 r.1 good) in
-      let view = b.in_view r.0 r.1 in
+      let view = agreed_view g.f new S b.agrees r.0 r.1 in
       let c = has_cover i v p d r.0 (il, s.0) s.1 vc (omega (arith, view, l)) (ltb-true _ _ e.0) in
       true≢false (sym c ∙ not-true _ e.1)) in
-      omega (arith, senders_are_distinct (size g) (lacks p d v) S b.rises b.replica, count_disjoint (size g) (sent_one (lacks p d v) S) settled.0 apart, settled.1)
+      omega (arith, senders_are_distinct (size g) (lacks p d v) S (agreed_rises g.f new S b.agrees) b.replica, count_disjoint (size g) (sent_one (lacks p d v) S) settled.0 apart, settled.1)
 
   -- of f + 1 witnesses one is correct: it stood for the digest in a view from v on, before the new one
-  a_witness : (w p v : ℕ) (d : List ℕ) (S : List Heard) (c : Choice) → IsBehind g sent w S c → weak_of g.f ≤ count_by (is_witness p d v) S
-      → (j : ℕ) × (u : ℕ) × IsCorrect g j × (v ≤ u) × (u < w) × StandsFor g sent j u p d
-  a_witness w p v d S c b many =
-      let m = a_correct_one (size g) (weak_of g.f) g.f g.compromised (λ i. (h : Heard) × Contains S h × (h.index ≡ i) × (is_witness p d v h ≡ true)) facts.sound (omega arith) (senders_of (size g) (weak_of g.f) (is_witness p d v) S b.rises b.replica many) in
+  a_witness : (p v : ℕ) (d : List ℕ) (new : NewView) (S : List Heard) → IsBehind g sent new S → weak_of g.f ≤ count_by (is_witness p d v) S
+      → (j : ℕ) × (u : ℕ) × IsCorrect g j × (v ≤ u) × (u < new.view) × StandsFor g sent j u p d
+  a_witness p v d new S b many =
+      let m = a_correct_one (size g) (weak_of g.f) g.f g.compromised (λ i. (h : Heard) × Contains S h × (h.index ≡ i) × (is_witness p d v h ≡ true)) facts.sound (omega arith) (senders_of (size g) (weak_of g.f) (is_witness p d v) S (agreed_rises g.f new S b.agrees) b.replica many) in
       let h = m.3.0 in
       let good : g.compromised h.index ≡ false = subst (λ y. g.compromised y ≡ false) (sym m.3.2) m.2 in
       let vc = b.sent_it h m.3.1 good in
@@ -103,16 +104,17 @@ module _ (law : HardlyLackedIsKept) (g : Group) (sent : Sent) (facts : Facts g s
       let e = t.3.0 in
       let st = facts.reports_its_commits.seen_stands h.index h.change (b.replica h m.3.1, good) vc t.0 t.1 e t.3.1 in
       let below = valid_seen h.change (b.valid h m.3.1) t.0 t.1 e t.3.1 in
-      let view = b.in_view h m.3.1 in
+      let view = agreed_view g.f new S b.agrees h m.3.1 in
       (h.index, e.view, (b.replica h m.3.1, good), t.3.3, omega (arith, below, view), subst (λ y. StandsFor g sent h.index e.view p y) t.3.2 (subst (λ y. StandsFor g sent h.index e.view y e.digest) t.2 st))
 
   -- what the choice gives at the place: the settled digest, or one for which a correct replica stood in a view between
-  from_choice : (v w p : ℕ) (d : List ℕ) (S : List Heard) (c : Choice) → IsSettled g sent v p d → v < w → IsBehind g sent w S c → c.place < p
-      → ((j u : ℕ) (x : List ℕ) → v < u → u < w → IsCorrect g j → StandsFor g sent j u p x → x ≡ d) → (p ≤ last_of c) × (chosen_at c p ≡ d)
-  from_choice v w p d S c settled l b above between =
-      let r = law g.f S c p d v (all_from (λ h. IsValid h.change) S b.valid) b.is_choice above (few_lack v w p d S c settled l b) in
+  from_choice : (v p : ℕ) (d : List ℕ) (new : NewView) (S : List Heard) → IsSettled g sent v p d → v < new.view → IsBehind g sent new S → new.choice.place < p
+      → ((j u : ℕ) (x : List ℕ) → v < u → u < new.view → IsCorrect g j → StandsFor g sent j u p x → x ≡ d) → (p ≤ last_of new.choice) × (chosen_at new.choice p ≡ d)
+  from_choice v p d new S settled l b above between =
+      let c = new.choice in
+      let r = law g.f S c p d v (all_from (λ h. IsValid h.change) S b.valid) b.agrees.choice above (few_lack v p d new S settled l b) in
       let later : ((u : ℕ) × (v < u) × (1 ≤ count_by (has_entry p (chosen_at c p) u) S) × (weak_of g.f ≤ count_by (is_witness p (chosen_at c p) u) S)) → chosen_at c p ≡ d = λ x.
-      (let m = a_witness w p x.0 (chosen_at c p) S c b x.3 in
+      (let m = a_witness p x.0 (chosen_at c p) new S b x.3 in
       between m.0 m.1 (chosen_at c p) (omega (arith, x.1, m.3)) m.4 m.2 m.5) in
       (r.0, elim r.1 [ inl e ↦ e | inr x ↦ later x ])
 
@@ -120,10 +122,12 @@ module _ (law : HardlyLackedIsKept) (g : Group) (sent : Sent) (facts : Facts g s
   stays_to zero v w p i d e most settled l ci s = absurd (omega arith)
   stays_to (suc k) v w p i d e most settled l ci s =
       let r = (facts.stands_on_a_choice i w p e ci s).later (omega arith) in
-      let go : r.0.place < p → (p ≤ last_of r.0) × (chosen_at r.0 p ≡ d) = λ above. from_choice v w p d r.1.0 r.0 settled l r.1.1 above (λ j u x a b cj t. stays_to k v u p j d x (omega arith) settled a cj t) in
-      elim r.2 [
+      let view = r.1 in
+      let c = r.0.choice in
+      let go : c.place < p → (p ≤ last_of c) × (chosen_at c p ≡ d) = λ above. from_choice v p d r.0 r.2.0 settled (omega (arith, view, l)) r.2.1 above (λ j u x a b cj t. stays_to k v u p j d x (omega (arith, view, b)) settled a cj t) in
+      elim r.3 [
         | inl x ↦ (sym x.2 ∙ (go x.0).1)
-        | inr x ↦ absurd (let q : r.0.place < p = omega (arith, x.0) in let y = (go q).0 in omega (arith, x.0, y))
+        | inr x ↦ absurd (let q : c.place < p = omega (arith, x.0) in let y = (go q).0 in omega (arith, x.0, y))
       ]
 
   pub settled_stays : (v w p i : ℕ) (d e : List ℕ) → IsSettled g sent v p d → v < w → IsCorrect g i → StandsFor g sent i w p e → e ≡ d
@@ -151,14 +155,15 @@ module _ (law : HardlyLackedIsKept) (g : Group) (sent : Sent) (facts : Facts g s
   -- a chosen digest is that of a backed event where those are for which correct replicas stood before
   chosen_backed : (w p : ℕ) (d : List ℕ) → g.backed null_digest ≡ true
       → ((j u : ℕ) (x : List ℕ) → u < w → IsCorrect g j → StandsFor g sent j u p x → g.backed x ≡ true)
-      → ((c : Choice) × ((S : List Heard) × IsBehind g sent w S c) × (Gives c p d ⊎ ((last_of c < p) × (g.backed d ≡ true)))) → g.backed d ≡ true
+      → ((new : NewView) × (new.view ≡ w) × HasGrounds g sent new × (Gives new.choice p d ⊎ ((last_of new.choice < p) × (g.backed d ≡ true)))) → g.backed d ≡ true
   chosen_backed w p d null earlier r =
-      elim r.2 [
+      let view = r.1 in
+      elim r.3 [
         | inr x ↦ x.1
-        | inl x ↦ subst (λ y. g.backed y ≡ true) x.2 (elim (r.1.1.is_choice.chosen p x.0 x.1) [
+        | inl x ↦ subst (λ y. g.backed y ≡ true) x.2 (elim (r.2.1.agrees.choice.chosen p x.0 x.1) [
           | inl a ↦
-              (let m = a_witness w p a.0 (chosen_at r.0 p) r.1.0 r.0 r.1.1 a.1.meets.witnessed in
-              earlier m.0 m.1 (chosen_at r.0 p) m.4 m.2 m.5)
+              (let m = a_witness p a.0 (chosen_at r.0.choice p) r.0 r.2.0 r.2.1 a.1.meets.witnessed in
+              earlier m.0 m.1 (chosen_at r.0.choice p) (omega (arith, m.4, view)) m.2 m.5)
           | inr b ↦ subst (λ y. g.backed y ≡ true) (sym b.2) null
         ])
       ]

@@ -62,7 +62,7 @@ abbrev pub HadIsBehind : Type 0
 HadIsBehind =
     (g : Group) (cores : ℕ → Core) (sent : Sent) (new : NewView) (heard : List Heard) → IsTrusted g → GroupKeeps g cores sent
     → Told g sent (primary g new.view) (say.NewView new) → Agrees g.f new heard → ((h : Heard) → Contains heard h → IsHad g sent new.view h)
-    → IsBehind g sent new.view heard new.choice
+    → IsBehind g sent new heard
 
 -- under the invariant, what a correct replica committed is settled
 abbrev pub CommittedIsSettled : Type 0
@@ -85,5 +85,5 @@ pub record RunsAgree : Type 0 where
   pub one : (g : Group) (cores : ℕ → Core) (sent : Sent) → IsTrusted g → Reached g cores sent → OneIsSettled g sent
   pub backed : (g : Group) (cores : ℕ → Core) (sent : Sent) → IsTrusted g → g.backed null_digest ≡ true → Reached g cores sent → StandsForBacked g sent
   pub committed :
-    (g : Group) (cores : ℕ → Core) (sent : Sent) → IsTrusted g → Reached g cores sent
-    → (i j place : ℕ) (a b : Slot) → IsCorrect g i → IsCorrect g j → (cores i).slot place ≡ Some a → (cores j).slot place ≡ Some b → a.committed ≡ true → b.committed ≡ true → a.digest ≡ b.digest
+      (g : Group) (cores : ℕ → Core) (sent : Sent) → IsTrusted g → Reached g cores sent
+      → (i j place : ℕ) (a b : Slot) → IsCorrect g i → IsCorrect g j → (cores i).slot place ≡ Some a → (cores j).slot place ≡ Some b → a.committed ≡ true → b.committed ≡ true → a.digest ≡ b.digest

@@ -24,19 +24,20 @@ CommitHasQuorum g sent =
     (i view place : ℕ) (digest : List ℕ) → IsCorrect g i → Contains sent (i, Commit view place digest)
     → AtLeast (size g) (quorum_of g.f) (λ k. Backs g sent k view place digest)
 
--- in a correct replica's view change the prepared set has rows of its COMMITs alone, and above its low mark, where it
--- sent COMMIT in an earlier view, one of that view or a later one; and it stands for what its pre-prepared set has
+-- in a correct replica's view change the prepared set has rows of its COMMITs of earlier views alone, and above its low
+-- mark, where it sent COMMIT in an earlier view, one of that view or a later one; and it stands for what its
+-- pre-prepared set has
 pub record ReportsItsCommits (g : Group) (sent : Sent) : Type 0 where
   pub row_is_commit :
-    (i : ℕ) (change : ViewChange) → IsCorrect g i → Contains sent (i, say.ViewChange change)
-    → (r : PRow) → Contains change.prepared r → Contains sent (i, Commit r.view r.place r.digest)
+      (i : ℕ) (change : ViewChange) → IsCorrect g i → Contains sent (i, say.ViewChange change)
+      → (r : PRow) → Contains change.prepared r → (r.view < change.view) × Contains sent (i, Commit r.view r.place r.digest)
   pub row_is_latest :
-    (i : ℕ) (change : ViewChange) → IsCorrect g i → Contains sent (i, say.ViewChange change)
-    → (view place : ℕ) (digest : List ℕ) → Contains sent (i, Commit view place digest) → view < change.view → change.low < place
-    → (r : PRow) × Contains change.prepared r × (r.place ≡ place) × (view ≤ r.view)
+      (i : ℕ) (change : ViewChange) → IsCorrect g i → Contains sent (i, say.ViewChange change)
+      → (view place : ℕ) (digest : List ℕ) → Contains sent (i, Commit view place digest) → view < change.view → change.low < place
+      → (r : PRow) × Contains change.prepared r × (r.place ≡ place) × (view ≤ r.view)
   pub seen_stands :
-    (i : ℕ) (change : ViewChange) → IsCorrect g i → Contains sent (i, say.ViewChange change)
-    → (row : QRow) → Contains change.pre_prepared row → (e : Seen) → Contains row.digests e → StandsFor g sent i e.view row.place e.digest
+      (i : ℕ) (change : ViewChange) → IsCorrect g i → Contains sent (i, say.ViewChange change)
+      → (row : QRow) → Contains change.pre_prepared row → (e : Seen) → Contains row.digests e → StandsFor g sent i e.view row.place e.digest
 
 -- above view 0 what a correct replica stands for was chosen, or stands above all that was, and then it is backed, as
 -- in view 0

@@ -1,6 +1,6 @@
 -- What every correct voter keeps at every step: the invariant of agreement, in the form in which a step keeps it. It
 -- speaks of the voter's own state and statements, and of what stands behind them in the statements that were sent.
-use Rattle.std.specs.Prelude.{ℕ, ◌≡◌, ◌<◌, ◌≤◌, ◌⊎◌, true, false, List, [], Option, Some, nat_lt, IsTrue}
+use Rattle.std.specs.Prelude.{ℕ, ◌≡◌, ◌<◌, ◌≤◌, ◌⊎◌, true, false, List, [], Option, Some}
 use Rattle.std.specs.List.{Contains}
 use Rattle.pws_base.specs.Shapes.{quorum_of}
 use Rattle.pws_msg.specs.declared.changes.PRow.{PRow}
@@ -8,12 +8,10 @@ use Rattle.pws_msg.specs.declared.changes.QRow.{QRow}
 use Rattle.pws_msg.specs.declared.changes.Seen.{Seen}
 use Rattle.pws_msg.specs.declared.changes.Named.{Named}
 use Rattle.pws_msg.specs.declared.changes.ViewChange.{ViewChange}
-use Rattle.pws_msg.specs.declared.changes.Choice.{Choice}
 use Rattle.pws_msg.specs.declared.changes.NewView.{NewView}
 use Rattle.pws_change.specs.declared.heard.Heard.{Heard}
-use Rattle.pws_change.specs.declared.decisions.Decision.TheVariants.{Chosen}
-use Rattle.pws_change.specs.Choices.{IsChoice, last_of}
-use Rattle.pws_change.specs.Rising.{rises}
+use Rattle.pws_change.specs.Agreements.{Agrees}
+use Rattle.pws_change.specs.Choices.{last_of}
 use Rattle.pws_change.specs.Valid.{IsValid}
 use Rattle.pws_safety.specs.Replicas.{AtLeast}
 use Rattle.pws_safety.specs.Statement.{Statement, Commit, Ack, view_of}
@@ -25,32 +23,42 @@ use Rattle.pws_safety.specs.Voters.{Slot, Core, report_of, IsHeard}
 abbrev pub Stood : Group → ℕ → List Statement → ℕ → ℕ → List ℕ → Type 0
 Stood g me said view place digest = (x : Statement) × Contains said x × StandsBy g me x view place digest
 
--- what a view change reports is so: each row of its prepared set is a COMMIT that its sender said; each COMMIT of an
--- earlier view, above the low mark, has a row at its place of its view or a later one; and its sender stood for each
--- digest of its pre-prepared set in the view that stands with it
+-- what a view change reports is so: each row of its prepared set is a COMMIT that its sender said in an earlier view;
+-- each COMMIT of an earlier view, above the low mark, has a row at its place of its view or a later one; and its sender
+-- stood for each digest of its pre-prepared set in the view that stands with it, an earlier one
 pub record TellsTrue (g : Group) (me : ℕ) (said : List Statement) (change : ViewChange) : Type 0 where
   pub row_said : (r : PRow) → Contains change.prepared r → Contains said (Commit r.view r.place r.digest)
+  pub row_earlier : (r : PRow) → Contains change.prepared r → r.view < change.view
   pub row_latest : (view place : ℕ) (digest : List ℕ) → Contains said (Commit view place digest) → view < change.view → change.low < place → (r : PRow) × Contains change.prepared r × (r.place ≡ place) × (view ≤ r.view)
   pub seen_stood : (row : QRow) → Contains change.pre_prepared row → (e : Seen) → Contains row.digests e → Stood g me said e.view row.place e.digest
+  pub seen_earlier : (row : QRow) → Contains change.pre_prepared row → (e : Seen) → Contains row.digests e → e.view < change.view
 
--- a list of view changes for the view has this choice: valid ones, of replicas by rising index, and each of a correct
--- replica is one that it sent
-pub record IsBehind (g : Group) (sent : Sent) (view : ℕ) (heard : List Heard) (choice : Choice) : Type 0 where
-  pub rises : IsTrue (rises (λ a b. nat_lt a.index b.index) heard)
+-- a list of view changes is behind a NEW_VIEW: it agrees with it, its changes are valid ones of replicas of the group,
+-- and each of a correct replica is one that it sent
+pub record IsBehind (g : Group) (sent : Sent) (new : NewView) (heard : List Heard) : Type 0 where
+  pub agrees : Agrees g.f new heard
   pub replica : (h : Heard) → Contains heard h → h.index < size g
-  pub in_view : (h : Heard) → Contains heard h → h.change.view ≡ view
   pub valid : (h : Heard) → Contains heard h → IsValid h.change
   pub sent_it : (h : Heard) → Contains heard h → g.compromised h.index ≡ false → Contains sent (h.index, say.ViewChange h.change)
-  pub is_choice : IsChoice g.f heard (Chosen choice)
 
-abbrev pub HasGrounds : Group → Sent → ℕ → Choice → Type 0
-HasGrounds g sent view choice = (heard : List Heard) × IsBehind g sent view heard choice
+-- a NEW_VIEW has view changes behind it
+abbrev pub HasGrounds : Group → Sent → NewView → Type 0
+HasGrounds g sent new = (heard : List Heard) × IsBehind g sent new heard
 
--- where it stands for a digest above view 0, some view changes for the view have a choice that gives the digest at the
--- place, or that ends below the place, and then the digest is of a backed event; in view 0 it is of a backed event
+-- where it stands for a digest above view 0, a NEW_VIEW of the view has view changes behind it, and its choice gives
+-- the digest at the place, or it ends below the place, and then the digest is of a backed event; in view 0 it is of a
+-- backed event
 pub record HasReason (g : Group) (sent : Sent) (view place : ℕ) (digest : List ℕ) : Type 0 where
   pub first : view ≡ 0 → g.backed digest ≡ true
-  pub later : 0 < view → (choice : Choice) × HasGrounds g sent view choice × (Gives choice place digest ⊎ ((last_of choice < place) × (g.backed digest ≡ true)))
+  pub later : 0 < view → (new : NewView) × (new.view ≡ view) × HasGrounds g sent new × (Gives new.choice place digest ⊎ ((last_of new.choice < place) × (g.backed digest ≡ true)))
+
+-- at or below its floor, the NEW_VIEW by which it entered gives this digest
+abbrev pub IsChosenIn : Core → ℕ → List ℕ → Type 0
+IsChosenIn s place digest = (place ≤ s.floor) × ((new : NewView) × (s.new_view ≡ Some new) × Gives new.choice place digest)
+
+-- above its floor, and not above `last`, it has a slot with this digest, if above its low mark
+abbrev pub IsFreshIn : Core → ℕ → List ℕ → Type 0
+IsFreshIn s place digest = (s.floor < place) × (place ≤ s.last) × (s.low < place → (slot : Slot) × (s.slot place ≡ Some slot) × (slot.digest ≡ digest))
 
 -- what the voter me keeps, where these statements were sent
 pub record Keeps (g : Group) (sent : Sent) (me : ℕ) (s : Core) : Type 0 where
@@ -59,10 +67,9 @@ pub record Keeps (g : Group) (sent : Sent) (me : ℕ) (s : Core) : Type 0 where
   -- until it enters its view it stands for nothing in it, and has no slot
   pub idle : s.active ≡ false → (place : ℕ) (digest : List ℕ) → Stood g me s.said s.view place digest → ⊥
   pub idle_slots : s.active ≡ false → (place : ℕ) (slot : Slot) → s.slot place ≡ Some slot → ⊥
-  -- what it stands for in its view is at or below its floor, or at or below `last`, and there in a slot if above low
-  pub in_view :
-    (place : ℕ) (digest : List ℕ) → Stood g me s.said s.view place digest
-    → (place ≤ s.floor) ⊎ ((place ≤ s.last) × (s.low < place → (slot : Slot) × (s.slot place ≡ Some slot) × (slot.digest ≡ digest)))
+  -- what it stands for in its view was chosen, or it is above its floor, at or below `last`, and above the low mark in
+  -- a slot
+  pub in_view : (place : ℕ) (digest : List ℕ) → Stood g me s.said s.view place digest → IsChosenIn s place digest ⊎ IsFreshIn s place digest
   -- one voice a view: it stands for at most one digest at a place of a view, and reports once a view
   pub one_digest : (view place : ℕ) (d e : List ℕ) → Stood g me s.said view place d → Stood g me s.said view place e → d ≡ e
   pub one_change : (c e : ViewChange) → Contains s.said (say.ViewChange c) → Contains s.said (say.ViewChange e) → c.view ≡ e.view → c ≡ e
@@ -80,7 +87,7 @@ pub record Keeps (g : Group) (sent : Sent) (me : ℕ) (s : Core) : Type 0 where
   pub state_true : TellsTrue g me s.said (report_of s s.view [] s.prepared s.pre_prepared)
   pub changes_true : (change : ViewChange) → Contains s.said (say.ViewChange change) → TellsTrue g me s.said change
   -- it takes part in a view above 0 by a NEW_VIEW with grounds, and its floor is that choice's end
-  pub entered : s.active ≡ true → 0 < s.view → (new : NewView) × (s.new_view ≡ Some new) × HasGrounds g sent s.view new.choice × (s.floor ≡ last_of new.choice)
+  pub entered : s.active ≡ true → 0 < s.view → (new : NewView) × (s.new_view ≡ Some new) × (new.view ≡ s.view) × HasGrounds g sent new × (s.floor ≡ last_of new.choice)
   -- it has a reason for each digest for which it stands
   pub reason : (view place : ℕ) (digest : List ℕ) → Stood g me s.said view place digest → HasReason g sent view place digest
   -- it acknowledges, and names in a NEW_VIEW, only digests of view changes that it heard from the replica named

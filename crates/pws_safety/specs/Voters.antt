@@ -147,8 +147,8 @@ pub record IsHad (g : Group) (sent : Sent) (view : ℕ) (heard : Heard) : Type 0
   pub valid : IsValid heard.change
   pub occurs : g.occurs heard.change ≡ true
   pub source :
-    Told g sent heard.index (say.ViewChange heard.change)
-    ⊎ AtLeast (size g) g.f (λ k. (k ≡ heard.index → ⊥) × (k ≡ primary g view → ⊥) × Told g sent k (Ack view heard.index heard.digest))
+      Told g sent heard.index (say.ViewChange heard.change)
+      ⊎ AtLeast (size g) g.f (λ k. (k ≡ heard.index → ⊥) × (k ≡ primary g view → ⊥) × Told g sent k (Ack view heard.index heard.digest))
 
 -- the step of a correct replica in a group, where these statements were sent before
 pub data Step (g : Group) (sent : Sent) (me : ℕ) : Core → Core → Type 0 where
