@@ -6,3 +6,5 @@ pub mod Slots
 pub mod Keeping
 pub mod Behind
 pub mod Group
+pub mod Next
+pub mod FirstRun

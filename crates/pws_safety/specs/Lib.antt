@@ -6,3 +6,4 @@ pub mod Runs
 pub mod Statement
 pub mod Statements
 pub mod Voters
+pub mod Witnesses
