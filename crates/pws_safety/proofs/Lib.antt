@@ -8,3 +8,4 @@ pub mod Behind
 pub mod Group
 pub mod Next
 pub mod FirstRun
+pub mod SecondRun
