@@ -20,6 +20,7 @@ use Rattle.pws_safety.specs.Agreement.{MoreIsKept, HadIsBehind, CommittedIsSettl
 use Rattle.pws_safety.proofs.Members.{nowhere, here, there, first_or_rest}
 use Rattle.pws_safety.proofs.Counted.{at_least_weaker}
 use Rattle.pws_safety.proofs.Slots.{none_some, prepare_pledge, propose_pledge}
+use Rattle.pws_safety.proofs.Next.{linked_step}
 use Rattle.pws_safety.proofs.Keeping.{kept_accept, kept_prepare, kept_commit, kept_lower, kept_move, kept_ack, Enters, kept_enter}
 use Rattle.pws_safety.proofs.Views.{quorum_settles}
 use Rattle.pws_safety.proofs.Behind.{named_from, behind_view, behind_heard, behind_had}
@@ -254,19 +255,14 @@ steps_keep g cores before after i s trusted kept ci t sends =
     let lifted : (k : ℕ) → IsCorrect g k → Keeps g after k (cores k) = λ k ck. keeps_later g before after sends.stays k (cores k) (kept.each k ck) in
     let at : (k : ℕ) → k ≡ i → with_core cores i s k ≡ s = λ k e. cond-true (k == i) s (cores k) (eq-eqb k i e) in
     let off : (k : ℕ) → (k ≡ i → ⊥) → with_core cores i s k ≡ cores k = λ k e. cond-false (k == i) s (cores k) (ne_eqb k i e) in
+    let linked = linked_step g cores before after i s (record { said = kept.said; only_said = kept.only_said }) sends in
     record {
       each = λ k ck. elim (cases_eq k i) [
         | inl e ↦ subst (λ y. Keeps g after k y) (sym (at k e)) (subst (λ y. Keeps g after y s) (sym e) (kept_step g trusted cores before after kept sends.stays i (cores i) s (lifted i ci) sends.own t))
         | inr e ↦ subst (λ y. Keeps g after k y) (sym (off k e)) (lifted k ck)
       ];
-      said = λ k ck x h. elim (cases_eq k i) [
-        | inl e ↦ subst (λ y. Contains after (y, x)) (sym e) (sends.own x (subst (λ (y : Core). Contains y.said x) (at k e) h))
-        | inr e ↦ sends.stays k x (kept.said k ck x (subst (λ (y : Core). Contains y.said x) (off k e) h))
-      ];
-      only_said = λ k ck x h. elim (cases_eq k i) [
-        | inl e ↦ subst (λ (y : Core). Contains y.said x) (sym (at k e)) (sends.only_own x (subst (λ y. Contains after (y, x)) e h))
-        | inr e ↦ subst (λ (y : Core). Contains y.said x) (sym (off k e)) (kept.only_said k ck x (sends.others k x ck e h))
-      ];
+      said = linked.said;
+      only_said = linked.only_said;
     }
 
 pub kept_gives_facts : KeptGivesFacts

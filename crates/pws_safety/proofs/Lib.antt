@@ -5,7 +5,7 @@ pub mod Views
 pub mod Slots
 pub mod Keeping
 pub mod Behind
-pub mod Group
 pub mod Next
+pub mod Group
 pub mod FirstRun
 pub mod SecondRun

@@ -1,13 +1,13 @@
 -- A run goes on by a step whose statements are sent at once.
-use Rattle.std.proofs.Common.{ℕ, ◌+◌, ◌<◌, ◌≤◌, ◌≡◌, ◌⊎◌, inl, inr, Bool, true, false, refl, sym, ap, ◌∙◌, subst, List, [], ◌∷◌, ◌++◌, map, arith}
+use Rattle.std.proofs.Common.{ℕ, ◌+◌, ◌<◌, ◌≤◌, ◌≡◌, ◌⊎◌, inl, inr, Bool, true, false, refl, sym, ap, ◌∙◌, subst, List, [], ◌∷◌, ◌++◌, ◌==◌}
 use Rattle.std.specs.List.{Contains}
+use Rattle.std.proofs.lemmas.Bool.{cases_eq, eq-eqb, ne_eqb, cond-true, cond-false}
 use Rattle.std.proofs.lemmas.List.Elements.{Contains-append_left, Contains-append_right, Contains-append_cases}
 use Rattle.pws_safety.specs.Statement.{Statement}
 use Rattle.pws_safety.specs.Statements.{Group, Sent, IsCorrect}
-use Rattle.pws_safety.specs.Voters.{Core, Step}
-use Rattle.pws_safety.specs.Runs.{Reached, step, IsTrusted, with_core}
+use Rattle.pws_safety.specs.Voters.{Core, new_core, Step}
+use Rattle.pws_safety.specs.Runs.{Reached, start, step, Sends, with_core}
 use Rattle.pws_safety.proofs.Members.{nowhere, here, there, first_or_rest}
-use Rattle.pws_safety.proofs.Group.{runs_keep}
 
 -- statements with their sender
 abbrev pub said_by : ℕ → List Statement → Sent
@@ -30,23 +30,51 @@ said_from i (y ∷ xs) k x h =
       | inr j ↦ (let r = said_from i xs k x j in (r.0, there y x xs r.1))
     ]
 
-pub next : (g : Group) → IsTrusted g → (cores : ℕ → Core) (sent : Sent) (i : ℕ) (s : Core) (xs : List Statement) → Reached g cores sent → IsCorrect g i → Step g sent i (cores i) s → s.said ≡ xs ++ (cores i).said
+-- what was sent in the name of correct replicas is what they said
+pub record IsLinked (g : Group) (cores : ℕ → Core) (sent : Sent) : Type 0 where
+  pub said : (i : ℕ) → IsCorrect g i → (x : Statement) → Contains (cores i).said x → Contains sent (i, x)
+  pub only_said : (i : ℕ) → IsCorrect g i → (x : Statement) → Contains sent (i, x) → Contains (cores i).said x
+
+pub linked_start : (g : Group) → IsLinked g (λ i. new_core) []
+linked_start g = record { said = λ i ci x h. absurd (nowhere x h); only_said = λ i ci x h. absurd (nowhere (i, x) h) }
+
+pub linked_step : (g : Group) (cores : ℕ → Core) (before after : Sent) (i : ℕ) (s : Core) → IsLinked g cores before → Sends g i s before after → IsLinked g (with_core cores i s) after
+linked_step g cores before after i s l sends =
+    let at : (k : ℕ) → k ≡ i → with_core cores i s k ≡ s = λ k e. cond-true (k == i) s (cores k) (eq-eqb k i e) in
+    let off : (k : ℕ) → (k ≡ i → ⊥) → with_core cores i s k ≡ cores k = λ k e. cond-false (k == i) s (cores k) (ne_eqb k i e) in
+    record {
+      said = λ k ck x h. elim (cases_eq k i) [
+        | inl e ↦ subst (λ y. Contains after (y, x)) (sym e) (sends.own x (subst (λ (y : Core). Contains y.said x) (at k e) h))
+        | inr e ↦ sends.stays k x (l.said k ck x (subst (λ (y : Core). Contains y.said x) (off k e) h))
+      ];
+      only_said = λ k ck x h. elim (cases_eq k i) [
+        | inl e ↦ subst (λ (y : Core). Contains y.said x) (sym (at k e)) (sends.only_own x (subst (λ y. Contains after (y, x)) e h))
+        | inr e ↦ subst (λ (y : Core). Contains y.said x) (sym (off k e)) (l.only_said k ck x (sends.others k x ck e h))
+      ];
+    }
+
+linked_run_from : (g : Group) {cores : ℕ → Core} {sent : Sent} → Reached g cores sent → IsLinked g cores sent
+linked_run_from g start = linked_start g
+linked_run_from g (step cores before after i s r ci t sends) = linked_step g cores before after i s (linked_run_from g r) sends
+
+-- a step says these statements, and they are sent
+pub sends_next : (g : Group) (cores : ℕ → Core) (sent : Sent) (i : ℕ) (s : Core) (xs : List Statement) → IsLinked g cores sent → IsCorrect g i → s.said ≡ xs ++ (cores i).said → Sends g i s sent (said_by i xs ++ sent)
+sends_next g cores sent i s xs l ci says = record {
+  stays = λ k x h. Contains-append_right (said_by i xs) sent (k, x) h;
+  own = λ x h. elim (Contains-append_cases xs (cores i).said x (subst (λ ys. Contains ys x) says h)) [
+    | inl a ↦ Contains-append_left (said_by i xs) sent (i, x) (said_has i xs x a)
+    | inr a ↦ Contains-append_right (said_by i xs) sent (i, x) (l.said i ci x a)
+  ];
+  only_own = λ x h. subst (λ ys. Contains ys x) (sym says) (elim (Contains-append_cases (said_by i xs) sent (i, x) h) [
+    | inl a ↦ Contains-append_left xs (cores i).said x (said_from i xs i x a).1
+    | inr a ↦ Contains-append_right xs (cores i).said x (l.only_said i ci x a)
+  ]);
+  others = λ k x ck other h. elim (Contains-append_cases (said_by i xs) sent (k, x) h) [
+    | inl a ↦ absurd (other (sym (said_from i xs k x a).0))
+    | inr a ↦ a
+  ];
+}
+
+pub next : (g : Group) (cores : ℕ → Core) (sent : Sent) (i : ℕ) (s : Core) (xs : List Statement) → Reached g cores sent → IsCorrect g i → Step g sent i (cores i) s → s.said ≡ xs ++ (cores i).said
     → Reached g (with_core cores i s) (said_by i xs ++ sent)
-next g trusted cores sent i s xs r ci t says =
-    let kept = runs_keep g cores sent trusted r in
-    step cores sent (said_by i xs ++ sent) i s r ci t
-    (record {
-      stays = λ k x h. Contains-append_right (said_by i xs) sent (k, x) h;
-      own = λ x h. elim (Contains-append_cases xs (cores i).said x (subst (λ ys. Contains ys x) says h)) [
-        | inl a ↦ Contains-append_left (said_by i xs) sent (i, x) (said_has i xs x a)
-        | inr a ↦ Contains-append_right (said_by i xs) sent (i, x) (kept.said i ci x a)
-      ];
-      only_own = λ x h. subst (λ ys. Contains ys x) (sym says) (elim (Contains-append_cases (said_by i xs) sent (i, x) h) [
-        | inl a ↦ Contains-append_left xs (cores i).said x (said_from i xs i x a).1
-        | inr a ↦ Contains-append_right xs (cores i).said x (kept.only_said i ci x a)
-      ]);
-      others = λ k x ck other h. elim (Contains-append_cases (said_by i xs) sent (k, x) h) [
-        | inl a ↦ absurd (other (sym (said_from i xs k x a).0))
-        | inr a ↦ a
-      ];
-    })
+next g cores sent i s xs r ci t says = step cores sent (said_by i xs ++ sent) i s r ci t (sends_next g cores sent i s xs (linked_run_from g r) ci says)

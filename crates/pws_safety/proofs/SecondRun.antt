@@ -24,11 +24,11 @@ use Rattle.pws_safety.specs.Statement as say
 use Rattle.pws_safety.specs.Statements.{Group, Sent, Told, Gives, IsSettled, IsCorrect, size, primary}
 use Rattle.pws_safety.specs.Voters.{Slot, Core, accepted, with_slot, after_move, after_enter, after_prepare, IsNoted, AcceptsChosen, PreparesChosen, IsHeard, IsHad, Step, move, offer, enter, prepare}
 use Rattle.pws_safety.specs.Runs.{Reached, with_core}
-use Rattle.pws_safety.specs.Witnesses.{example_digest, first_checkpoint, prepared_row, seen_digest, pre_prepared_row, example_report, example_group, example_new_view, KeepsInViewOne}
+use Rattle.pws_safety.specs.Witnesses.{example_digest, first_checkpoint, prepared_row, seen_digest, pre_prepared_row, example_report, same_change, example_new_view, KeepsInViewOne}
 use Rattle.pws_safety.proofs.Members.{nowhere, here, first_or_rest, any_has, count_some}
 use Rattle.pws_safety.proofs.Slots.{some_same, none_some, slot_here, slot_other}
 use Rattle.pws_safety.proofs.Next.{next}
-use Rattle.pws_safety.proofs.FirstRun.{example_is_trusted, two_have, group, leader_prepared, backup_prepared, prepared_cores, prepared_sent, prepared_run}
+use Rattle.pws_safety.proofs.FirstRun.{two_have, group, leader_prepared, backup_prepared, prepared_cores, prepared_sent, prepared_run}
 
 only_item : {X : Type 0} (a x : X) → Contains (a ∷ []) x → a ≡ x
 only_item a x h = elim (first_or_rest a x [] h) [ inl e ↦ e | inr k ↦ absurd (nowhere x k) ]
@@ -38,8 +38,11 @@ only_slot : (a : Slot) (q : ℕ) (x : Slot) → with_slot (λ place. None) 1 a q
 only_slot a q x h = elim (cases_eq q 1) [ inl e ↦ e | inr n ↦ absurd (none_some x (sym (slot_other (λ place. None) 1 q a n) ∙ h)) ]
 
 module _ (digest_of : ViewChange → List ℕ) where
+  abbrev occurs : ViewChange → Bool
+  occurs = same_change (example_report 1)
+
   abbrev heard_from : ℕ → Heard
-  heard_from i = record { index = i; digest = digest_of example_report; change = example_report }
+  heard_from i = record { index = i; digest = digest_of (example_report 1); change = example_report 1 }
 
   abbrev heard : List Heard
   heard = heard_from 0 ∷ heard_from 1 ∷ heard_from 2 ∷ []
@@ -58,7 +61,7 @@ module _ (digest_of : ViewChange → List ℕ) where
   each_heard : (P : Heard → Type 0) → P (heard_from 0) → P (heard_from 1) → P (heard_from 2) → (h : Heard) → Contains heard h → P h
   each_heard P a b c h k = elim (heard_is h k) [ inl e ↦ subst P (sym e) a | inr j ↦ elim j [ inl e ↦ subst P (sym e) b | inr e ↦ subst P (sym e) c ] ]
 
-  report_valid : IsValid example_report
+  report_valid : IsValid (example_report 1)
   report_valid = record { view = refl; low = refl; checkpoints = refl; prepared = refl; pre_prepared = refl }
 
   -- the only checkpoint that a view may start from
@@ -128,13 +131,13 @@ module _ (digest_of : ViewChange → List ℕ) where
   moved s = after_move s 1 (first_checkpoint ∷ []) (prepared_row ∷ []) (pre_prepared_row ∷ [])
 
   abbrev report : Statement
-  report = say.ViewChange example_report
+  report = say.ViewChange (example_report 1)
 
   abbrev moved_cores : ℕ → Core
-  moved_cores = with_core (with_core (with_core (prepared_cores digest_of) 0 (moved (leader_prepared digest_of))) 1 (moved (backup_prepared digest_of))) 2 (moved (backup_prepared digest_of))
+  moved_cores = with_core (with_core (with_core (prepared_cores digest_of occurs) 0 (moved (leader_prepared digest_of occurs))) 1 (moved (backup_prepared digest_of occurs))) 2 (moved (backup_prepared digest_of occurs))
 
   abbrev moved_sent : Sent
-  moved_sent = (2, report) ∷ (1, report) ∷ (0, report) ∷ prepared_sent digest_of
+  moved_sent = (2, report) ∷ (1, report) ∷ (0, report) ∷ prepared_sent digest_of occurs
 
   -- the slots that each of the three has: a prepared one at place 1
   slot_one : (q : ℕ) (x : Slot) → with_slot (with_slot (λ place. None) 1 (accepted example_digest)) 1 (record { digest = example_digest; prepared = true; committed = false }) q ≡ Some x → q ≡ 1
@@ -144,20 +147,19 @@ module _ (digest_of : ViewChange → List ℕ) where
         | inr n ↦ only_slot (accepted example_digest) q x (sym (slot_other (with_slot (λ place. None) 1 (accepted example_digest)) 1 q (record { digest = example_digest; prepared = true; committed = false }) n) ∙ h)
       ]
 
-  moved_run : Reached (group digest_of) moved_cores moved_sent
+  moved_run : Reached (group digest_of occurs) moved_cores moved_sent
   moved_run =
-      let g : Group = group digest_of in
-      let trusted = example_is_trusted digest_of in
-      let c1 : ℕ → Core = with_core (prepared_cores digest_of) 0 (moved (leader_prepared digest_of)) in
-      let t1 : Sent = (0, report) ∷ prepared_sent digest_of in
-      let r1 : Reached g c1 t1 = next g trusted (prepared_cores digest_of) (prepared_sent digest_of) 0 (moved (leader_prepared digest_of)) (report ∷ []) (prepared_run digest_of) (omega arith, refl)
-          (move (leader_prepared digest_of) 1 (first_checkpoint ∷ []) (prepared_row ∷ []) (pre_prepared_row ∷ []) (omega arith) (noted (leader_prepared digest_of) refl refl slot_one refl)) refl in
-      let c2 : ℕ → Core = with_core c1 1 (moved (backup_prepared digest_of)) in
+      let g : Group = group digest_of occurs in
+      let c1 : ℕ → Core = with_core (prepared_cores digest_of occurs) 0 (moved (leader_prepared digest_of occurs)) in
+      let t1 : Sent = (0, report) ∷ prepared_sent digest_of occurs in
+      let r1 : Reached g c1 t1 = next g (prepared_cores digest_of occurs) (prepared_sent digest_of occurs) 0 (moved (leader_prepared digest_of occurs)) (report ∷ []) (prepared_run digest_of occurs) (omega arith, refl)
+          (move (leader_prepared digest_of occurs) 1 (first_checkpoint ∷ []) (prepared_row ∷ []) (pre_prepared_row ∷ []) (omega arith) (noted (leader_prepared digest_of occurs) refl refl slot_one refl)) refl in
+      let c2 : ℕ → Core = with_core c1 1 (moved (backup_prepared digest_of occurs)) in
       let t2 : Sent = (1, report) ∷ t1 in
-      let r2 : Reached g c2 t2 = next g trusted c1 t1 1 (moved (backup_prepared digest_of)) (report ∷ []) r1 (omega arith, refl)
-          (move (backup_prepared digest_of) 1 (first_checkpoint ∷ []) (prepared_row ∷ []) (pre_prepared_row ∷ []) (omega arith) (noted (backup_prepared digest_of) refl refl slot_one refl)) refl in
-      next g trusted c2 t2 2 (moved (backup_prepared digest_of)) (report ∷ []) r2 (omega arith, refl)
-      (move (backup_prepared digest_of) 1 (first_checkpoint ∷ []) (prepared_row ∷ []) (pre_prepared_row ∷ []) (omega arith) (noted (backup_prepared digest_of) refl refl slot_one refl)) refl
+      let r2 : Reached g c2 t2 = next g c1 t1 1 (moved (backup_prepared digest_of occurs)) (report ∷ []) r1 (omega arith, refl)
+          (move (backup_prepared digest_of occurs) 1 (first_checkpoint ∷ []) (prepared_row ∷ []) (pre_prepared_row ∷ []) (omega arith) (noted (backup_prepared digest_of occurs) refl refl slot_one refl)) refl in
+      next g c2 t2 2 (moved (backup_prepared digest_of occurs)) (report ∷ []) r2 (omega arith, refl)
+      (move (backup_prepared digest_of occurs) 1 (first_checkpoint ∷ []) (prepared_row ∷ []) (pre_prepared_row ∷ []) (omega arith) (noted (backup_prepared digest_of occurs) refl refl slot_one refl)) refl
 
   -- replica 1, the primary of view 1, offers the new view
   abbrev chosen_slots : ℕ → Option Slot
@@ -175,7 +177,7 @@ module _ (digest_of : ViewChange → List ℕ) where
       (omega (arith, e, low), omega (arith, e), subst (λ y. Gives new.choice y x.digest) (sym e) (subst (λ (y : Slot). Gives new.choice 1 y.digest) (sym a) (omega arith, omega arith, refl)), subst (λ (y : Slot). y ≡ accepted y.digest) (sym a) refl)
 
   abbrev started : Core
-  started = after_enter (moved (backup_prepared digest_of)) new chosen_slots 1 (say.NewView new ∷ [])
+  started = after_enter (moved (backup_prepared digest_of occurs)) new chosen_slots 1 (say.NewView new ∷ [])
 
   abbrev started_cores : ℕ → Core
   started_cores = with_core moved_cores 1 started
@@ -183,22 +185,22 @@ module _ (digest_of : ViewChange → List ℕ) where
   abbrev started_sent : Sent
   started_sent = (1, say.NewView new) ∷ moved_sent
 
-  heard_in : (sent : Sent) → Contains sent (0, report) → Contains sent (1, report) → Contains sent (2, report) → (h : Heard) → Contains heard h → (digest_of h.change ≡ h.digest) × IsHeard (group digest_of) sent 1 h.index h.change
+  heard_in : (sent : Sent) → Contains sent (0, report) → Contains sent (1, report) → Contains sent (2, report) → (h : Heard) → Contains heard h → (digest_of h.change ≡ h.digest) × IsHeard (group digest_of occurs) sent 1 h.index h.change
   heard_in sent a b c h k =
-      each_heard (λ h. (digest_of h.change ≡ h.digest) × IsHeard (group digest_of) sent 1 h.index h.change)
+      each_heard (λ h. (digest_of h.change ≡ h.digest) × IsHeard (group digest_of occurs) sent 1 h.index h.change)
       (refl, record { replica = omega arith; told = inr a; in_view = refl; valid = report_valid; occurs = refl })
       (refl, record { replica = omega arith; told = inr b; in_view = refl; valid = report_valid; occurs = refl })
       (refl, record { replica = omega arith; told = inr c; in_view = refl; valid = report_valid; occurs = refl }) h k
 
-  had_in : (sent : Sent) → Contains sent (0, report) → Contains sent (1, report) → Contains sent (2, report) → (h : Heard) → Contains heard h → IsHad (group digest_of) sent 1 h
+  had_in : (sent : Sent) → Contains sent (0, report) → Contains sent (1, report) → Contains sent (2, report) → (h : Heard) → Contains heard h → IsHad (group digest_of occurs) sent 1 h
   had_in sent a b c h k =
       let r = heard_in sent a b c h k in
       record { replica = r.1.replica; digest = r.0; in_view = r.1.in_view; valid = r.1.valid; occurs = r.1.occurs; source = inl r.1.told }
 
-  started_run : Reached (group digest_of) started_cores started_sent
+  started_run : Reached (group digest_of occurs) started_cores started_sent
   started_run =
-      next (group digest_of) (example_is_trusted digest_of) moved_cores moved_sent 1 started (say.NewView new ∷ []) moved_run (omega arith, refl)
-      (offer (moved (backup_prepared digest_of)) new heard chosen_slots 1 refl refl refl agrees (heard_in moved_sent (2, omega arith, refl) (1, omega arith, refl) (0, omega arith, refl)) (accepts (moved (backup_prepared digest_of)) refl)) refl
+      next (group digest_of occurs) moved_cores moved_sent 1 started (say.NewView new ∷ []) moved_run (omega arith, refl)
+      (offer (moved (backup_prepared digest_of occurs)) new heard chosen_slots 1 refl refl refl agrees (heard_in moved_sent (2, omega arith, refl) (1, omega arith, refl) (0, omega arith, refl)) (accepts (moved (backup_prepared digest_of occurs)) refl)) refl
 
   -- replicas 0 and 2 enter it
   abbrev vote_again : Statement
@@ -215,51 +217,50 @@ module _ (digest_of : ViewChange → List ℕ) where
   entered s = after_enter s new chosen_slots 1 (vote_again ∷ [])
 
   abbrev entered_cores : ℕ → Core
-  entered_cores = with_core (with_core started_cores 0 (entered (moved (leader_prepared digest_of)))) 2 (entered (moved (backup_prepared digest_of)))
+  entered_cores = with_core (with_core started_cores 0 (entered (moved (leader_prepared digest_of occurs)))) 2 (entered (moved (backup_prepared digest_of occurs)))
 
   abbrev entered_sent : Sent
   entered_sent = (2, vote_again) ∷ (0, vote_again) ∷ started_sent
 
-  entered_run : Reached (group digest_of) entered_cores entered_sent
+  entered_run : Reached (group digest_of occurs) entered_cores entered_sent
   entered_run =
-      let g : Group = group digest_of in
-      let trusted = example_is_trusted digest_of in
-      let c1 : ℕ → Core = with_core started_cores 0 (entered (moved (leader_prepared digest_of))) in
+      let g : Group = group digest_of occurs in
+      let c1 : ℕ → Core = with_core started_cores 0 (entered (moved (leader_prepared digest_of occurs))) in
       let t1 : Sent = (0, vote_again) ∷ started_sent in
-      let r1 : Reached g c1 t1 = next g trusted started_cores started_sent 0 (entered (moved (leader_prepared digest_of))) (vote_again ∷ []) started_run (omega arith, refl)
-          (enter (moved (leader_prepared digest_of)) new heard chosen_slots 1 (vote_again ∷ []) refl (λ e. absurd (omega (arith, e))) refl (inr (0, omega arith, refl)) agrees (had_in started_sent (3, omega arith, refl) (2, omega arith, refl) (1, omega arith, refl)) (accepts (moved (leader_prepared digest_of)) refl) (prepares (moved (leader_prepared digest_of)) refl)) refl in
-      next g trusted c1 t1 2 (entered (moved (backup_prepared digest_of))) (vote_again ∷ []) r1 (omega arith, refl)
-      (enter (moved (backup_prepared digest_of)) new heard chosen_slots 1 (vote_again ∷ []) refl (λ e. absurd (omega (arith, e))) refl (inr (1, omega arith, refl)) agrees (had_in t1 (4, omega arith, refl) (3, omega arith, refl) (2, omega arith, refl)) (accepts (moved (backup_prepared digest_of)) refl) (prepares (moved (backup_prepared digest_of)) refl)) refl
+      let r1 : Reached g c1 t1 = next g started_cores started_sent 0 (entered (moved (leader_prepared digest_of occurs))) (vote_again ∷ []) started_run (omega arith, refl)
+          (enter (moved (leader_prepared digest_of occurs)) new heard chosen_slots 1 (vote_again ∷ []) refl (λ e. absurd (omega (arith, e))) refl (inr (0, omega arith, refl)) agrees (had_in started_sent (3, omega arith, refl) (2, omega arith, refl) (1, omega arith, refl)) (accepts (moved (leader_prepared digest_of occurs)) refl) (prepares (moved (leader_prepared digest_of occurs)) refl)) refl in
+      next g c1 t1 2 (entered (moved (backup_prepared digest_of occurs))) (vote_again ∷ []) r1 (omega arith, refl)
+      (enter (moved (backup_prepared digest_of occurs)) new heard chosen_slots 1 (vote_again ∷ []) refl (λ e. absurd (omega (arith, e))) refl (inr (1, omega arith, refl)) agrees (had_in t1 (4, omega arith, refl) (3, omega arith, refl) (2, omega arith, refl)) (accepts (moved (backup_prepared digest_of occurs)) refl) (prepares (moved (backup_prepared digest_of occurs)) refl)) refl
 
   -- and commit again
   abbrev agree_again : Statement
   agree_again = Commit 1 1 example_digest
 
   abbrev last_cores : ℕ → Core
-  last_cores = with_core (with_core entered_cores 0 (after_prepare (entered (moved (leader_prepared digest_of))) 1 example_digest)) 2 (after_prepare (entered (moved (backup_prepared digest_of))) 1 example_digest)
+  last_cores = with_core (with_core entered_cores 0 (after_prepare (entered (moved (leader_prepared digest_of occurs))) 1 example_digest)) 2 (after_prepare (entered (moved (backup_prepared digest_of occurs))) 1 example_digest)
 
   abbrev last_sent : Sent
   last_sent = (2, agree_again) ∷ (0, agree_again) ∷ entered_sent
 
-  last_run : Reached (group digest_of) last_cores last_sent
+  last_run : Reached (group digest_of occurs) last_cores last_sent
   last_run =
-      let g : Group = group digest_of in
-      let trusted = example_is_trusted digest_of in
-      let c1 : ℕ → Core = with_core entered_cores 0 (after_prepare (entered (moved (leader_prepared digest_of))) 1 example_digest) in
+      let g : Group = group digest_of occurs in
+      let c1 : ℕ → Core = with_core entered_cores 0 (after_prepare (entered (moved (leader_prepared digest_of occurs))) 1 example_digest) in
       let t1 : Sent = (0, agree_again) ∷ entered_sent in
-      let r1 : Reached g c1 t1 = next g trusted entered_cores entered_sent 0 (after_prepare (entered (moved (leader_prepared digest_of))) 1 example_digest) (agree_again ∷ []) entered_run (omega arith, refl)
-          (prepare (entered (moved (leader_prepared digest_of))) 1 example_digest refl refl (two_have 0 2 (λ k. (k ≡ primary g 1 → ⊥) × Told g entered_sent k vote_again) (omega arith) (λ e. absurd (omega (arith, e)), inr (1, omega arith, refl)) (λ e. absurd (omega (arith, e)), inr (0, omega arith, refl)))) refl in
-      next g trusted c1 t1 2 (after_prepare (entered (moved (backup_prepared digest_of))) 1 example_digest) (agree_again ∷ []) r1 (omega arith, refl)
-      (prepare (entered (moved (backup_prepared digest_of))) 1 example_digest refl refl (two_have 0 2 (λ k. (k ≡ primary g 1 → ⊥) × Told g t1 k vote_again) (omega arith) (λ e. absurd (omega (arith, e)), inr (2, omega arith, refl)) (λ e. absurd (omega (arith, e)), inr (1, omega arith, refl)))) refl
+      let r1 : Reached g c1 t1 = next g entered_cores entered_sent 0 (after_prepare (entered (moved (leader_prepared digest_of occurs))) 1 example_digest) (agree_again ∷ []) entered_run (omega arith, refl)
+          (prepare (entered (moved (leader_prepared digest_of occurs))) 1 example_digest refl refl (two_have 0 2 (λ k. (k ≡ primary g 1 → ⊥) × Told g entered_sent k vote_again) (omega arith) (λ e. absurd (omega (arith, e)), inr (1, omega arith, refl)) (λ e. absurd (omega (arith, e)), inr (0, omega arith, refl)))) refl in
+      next g c1 t1 2 (after_prepare (entered (moved (backup_prepared digest_of occurs))) 1 example_digest) (agree_again ∷ []) r1 (omega arith, refl)
+      (prepare (entered (moved (backup_prepared digest_of occurs))) 1 example_digest refl refl (two_have 0 2 (λ k. (k ≡ primary g 1 → ⊥) × Told g t1 k vote_again) (omega arith) (λ e. absurd (omega (arith, e)), inr (2, omega arith, refl)) (λ e. absurd (omega (arith, e)), inr (1, omega arith, refl)))) refl
 
 pub keeps_in_view_one : KeepsInViewOne
-keeps_in_view_one digest_of = (
+keeps_in_view_one digest_of =
+    let occurs : ViewChange → Bool = same_change (example_report 1) in (
   last_cores digest_of,
   last_sent digest_of,
   last_run digest_of,
-  two_have 1 2 (λ i. ((group digest_of).compromised i ≡ false) × Contains (last_sent digest_of) (i, Commit 0 1 example_digest)) (omega arith) (refl, (9, omega arith, refl)) (refl, (8, omega arith, refl)),
+  two_have 1 2 (λ i. ((group digest_of occurs).compromised i ≡ false) × Contains (last_sent digest_of) (i, Commit 0 1 example_digest)) (omega arith) (refl, (9, omega arith, refl)) (refl, (8, omega arith, refl)),
   (4, omega arith, refl),
   refl,
   refl,
-  two_have 0 2 (λ i. ((group digest_of).compromised i ≡ false) × Contains (last_sent digest_of) (i, Commit 1 1 example_digest)) (omega arith) (refl, (1, omega arith, refl)) (refl, (0, omega arith, refl)),
+  two_have 0 2 (λ i. ((group digest_of occurs).compromised i ≡ false) × Contains (last_sent digest_of) (i, Commit 1 1 example_digest)) (omega arith) (refl, (1, omega arith, refl)) (refl, (0, omega arith, refl)),
 )

@@ -33,44 +33,61 @@ seen_digest = record { digest = example_digest; view = 0 }
 abbrev pub pre_prepared_row : QRow
 pre_prepared_row = record { place = 1; digests = seen_digest ∷ [] }
 
--- what a replica reports as it moves to view 1, having prepared the digest at place 1 in view 0
-abbrev pub example_report : ViewChange
-example_report = record { view = 1; low = 0; checkpoints = first_checkpoint ∷ []; prepared = prepared_row ∷ []; pre_prepared = pre_prepared_row ∷ [] }
+-- what a replica reports as it moves to a view, having prepared the digest at place 1 in view 0
+abbrev pub example_report : ℕ → ViewChange
+example_report view = record { view = view; low = 0; checkpoints = first_checkpoint ∷ []; prepared = prepared_row ∷ []; pre_prepared = pre_prepared_row ∷ [] }
 
--- whether a list is one item, which passes
-abbrev pub is_only : {X : Type 0} → (X → Bool) → List X → Bool
-is_only test [] = false
-is_only test (x ∷ []) = test x
-is_only test (x ∷ y ∷ ys) = false
+-- whether two lists are the same, item by item
+abbrev pub same_items : {X : Type 0} → (X → X → Bool) → List X → List X → Bool
+same_items same [] [] = true
+same_items same [] (y ∷ ys) = false
+same_items same (x ∷ xs) [] = false
+same_items same (x ∷ xs) (y ∷ ys) = same x y && same_items same xs ys
 
--- whether a view change is this report, the one that occurs
-abbrev pub is_example_report : ViewChange → Bool
-is_example_report c =
-    c.view == 1
-    && c.low == 0
-    && is_only (λ p. p.place == 0 && bytes_eq p.digest first_checkpoint.digest) c.checkpoints
-    && is_only (λ r. r.place == 1 && bytes_eq r.digest example_digest && r.view == 0) c.prepared
-    && is_only (λ q. q.place == 1 && is_only (λ s. bytes_eq s.digest example_digest && s.view == 0) q.digests) c.pre_prepared
+abbrev pub same_checkpoint : Checkpoint → Checkpoint → Bool
+same_checkpoint a b = a.place == b.place && bytes_eq a.digest b.digest
 
--- the group, whatever the function is that takes digests of view changes
-abbrev pub example_group : (ViewChange → List ℕ) → Group
-example_group digest_of = record { f = 1; compromised = λ i. i == 3; digest_of = digest_of; occurs = is_example_report; backed = λ digest. true }
+abbrev pub same_p_row : PRow → PRow → Bool
+same_p_row a b = a.place == b.place && bytes_eq a.digest b.digest && a.view == b.view
+
+abbrev pub same_seen : Seen → Seen → Bool
+same_seen a b = bytes_eq a.digest b.digest && a.view == b.view
+
+abbrev pub same_q_row : QRow → QRow → Bool
+same_q_row a b = a.place == b.place && same_items same_seen a.digests b.digests
+
+-- whether two view changes are the same
+abbrev pub same_change : ViewChange → ViewChange → Bool
+same_change a b =
+    a.view == b.view
+    && a.low == b.low
+    && same_items same_checkpoint a.checkpoints b.checkpoints
+    && same_items same_p_row a.prepared b.prepared
+    && same_items same_q_row a.pre_prepared b.pre_prepared
+
+-- the group, where view changes have these digests, and these occur
+abbrev pub example_group : (ViewChange → List ℕ) → (ViewChange → Bool) → Group
+example_group digest_of occurs = record { f = 1; compromised = λ i. i == 3; digest_of = digest_of; occurs = occurs; backed = λ digest. true }
+
+-- where the report of view 1 alone occurs, whatever its digest
+abbrev pub witness_group : (ViewChange → List ℕ) → Group
+witness_group digest_of = example_group digest_of (same_change (example_report 1))
 
 -- the NEW_VIEW of view 1 on the reports of replicas 0, 1 and 2, which keeps the digest at place 1
 abbrev pub example_new_view : (ViewChange → List ℕ) → NewView
 example_new_view digest_of = record {
   view = 1;
-  named = record { index = 0; digest = digest_of example_report } ∷ record { index = 1; digest = digest_of example_report } ∷ record { index = 2; digest = digest_of example_report } ∷ [];
+  named = record { index = 0; digest = digest_of (example_report 1) } ∷ record { index = 1; digest = digest_of (example_report 1) } ∷ record { index = 2; digest = digest_of (example_report 1) } ∷ [];
   choice = record { place = 0; digest = first_checkpoint.digest; chosen = example_digest ∷ [] };
 }
 
 -- the group meets what the theorems suppose
-abbrev pub ExampleIsTrusted : Type 0
-ExampleIsTrusted = (digest_of : ViewChange → List ℕ) → IsTrusted (example_group digest_of)
+abbrev pub WitnessIsTrusted : Type 0
+WitnessIsTrusted = (digest_of : ViewChange → List ℕ) → IsTrusted (witness_group digest_of)
 
 -- it can settle a digest in view 0
 abbrev pub SettlesInViewZero : Type 0
-SettlesInViewZero = (digest_of : ViewChange → List ℕ) → (cores : ℕ → Core) × (sent : Sent) × Reached (example_group digest_of) cores sent × IsSettled (example_group digest_of) sent 0 1 example_digest
+SettlesInViewZero = (digest_of : ViewChange → List ℕ) → (cores : ℕ → Core) × (sent : Sent) × Reached (witness_group digest_of) cores sent × IsSettled (witness_group digest_of) sent 0 1 example_digest
 
 -- it can then go to view 1 by that NEW_VIEW, and settle the same digest there
 abbrev pub KeepsInViewOne : Type 0
@@ -78,9 +95,9 @@ KeepsInViewOne =
     (digest_of : ViewChange → List ℕ)
     → (cores : ℕ → Core)
     × (sent : Sent)
-    × Reached (example_group digest_of) cores sent
-    × IsSettled (example_group digest_of) sent 0 1 example_digest
+    × Reached (witness_group digest_of) cores sent
+    × IsSettled (witness_group digest_of) sent 0 1 example_digest
     × Contains sent (1, say.NewView (example_new_view digest_of))
     × ((cores 0).view ≡ 1)
     × ((cores 0).active ≡ true)
-    × IsSettled (example_group digest_of) sent 1 1 example_digest
+    × IsSettled (witness_group digest_of) sent 1 1 example_digest

@@ -1,5 +1,5 @@
-use Rattle.pws_safety.proofs.FirstRun.{example_is_trusted, settles_in_view_zero}
+use Rattle.pws_safety.proofs.FirstRun.{witness_is_trusted, settles_in_view_zero}
 use Rattle.pws_safety.proofs.witnesses.settles_in_view_zero.Goals as goal
 
 pub returns : goal.returns
-returns c = record { trusted = example_is_trusted; settles = settles_in_view_zero }
+returns c = record { trusted = witness_is_trusted; settles = settles_in_view_zero }
