@@ -13,7 +13,7 @@ use Rattle.pws_base.specs.Counts.{count_below}
 use Rattle.pws_safety.specs.Replicas.{AtLeast}
 use Rattle.pws_safety.specs.Statement.{Statement, PrePrepare, Prepare, Commit}
 use Rattle.pws_safety.specs.Statements.{Group, Sent, Told, IsSettled, size, primary}
-use Rattle.pws_safety.specs.Voters.{Slot, Core, new_core, accepted, after_accept, after_prepare, Step, propose, accept, prepare}
+use Rattle.pws_safety.specs.Voters.{Slot, Core, new_core, accepted, after_accept, after_prepare, after_commit, Step, propose, accept, prepare, commit}
 use Rattle.pws_safety.specs.Runs.{Reached, start, IsTrusted, with_core}
 use Rattle.pws_safety.specs.Witnesses.{example_digest, example_report, same_items, same_checkpoint, same_p_row, same_seen, same_q_row, same_change, example_group, WitnessIsTrusted, SettlesInViewZero}
 use Rattle.pws_safety.proofs.Next.{next}
@@ -79,12 +79,22 @@ one_occurs digest_of c = record { sound = omega arith; no_collision = λ a b x y
 pub witness_is_trusted : WitnessIsTrusted
 witness_is_trusted digest_of = one_occurs digest_of (example_report 1)
 
--- two replicas of four have a property
+-- two, and three replicas of four have a property
 pub two_have : (a b : ℕ) (P : ℕ → Type 0) → 2 ≤ count_below 4 (λ i. (i == a) || (i == b)) → P a → P b → AtLeast 4 2 P
 two_have a b P enough x y = (
   (λ i. (i == a) || (i == b)),
   enough,
   λ i l t. elim (or_cases (i == a) (i == b) t) [ inl e ↦ subst P (sym (eqb-true i a e)) x | inr e ↦ subst P (sym (eqb-true i b e)) y ],
+)
+
+pub three_have : (a b c : ℕ) (P : ℕ → Type 0) → 3 ≤ count_below 4 (λ i. (i == a) || ((i == b) || (i == c))) → P a → P b → P c → AtLeast 4 3 P
+three_have a b c P enough x y z = (
+  (λ i. (i == a) || ((i == b) || (i == c))),
+  enough,
+  λ i l t. elim (or_cases (i == a) ((i == b) || (i == c)) t) [
+    | inl e ↦ subst P (sym (eqb-true i a e)) x
+    | inr k ↦ elim (or_cases (i == b) (i == c) k) [ inl e ↦ subst P (sym (eqb-true i b e)) y | inr e ↦ subst P (sym (eqb-true i c e)) z ]
+  ],
 )
 
 module _ (digest_of : ViewChange → List ℕ) (occurs : ViewChange → Bool) where
@@ -151,6 +161,18 @@ module _ (digest_of : ViewChange → List ℕ) (occurs : ViewChange → Bool) wh
 
   pub settled_in_prepared : IsSettled group prepared_sent 0 1 example_digest
   settled_in_prepared = two_have 1 2 (λ i. (group.compromised i ≡ false) × Contains prepared_sent (i, agreed)) (omega arith) (refl, (1, omega arith, refl)) (refl, (0, omega arith, refl))
+
+  -- and the primary commits
+  abbrev pub leader_committed : Core
+  leader_committed = after_commit leader_prepared 1 example_digest
+
+  abbrev pub committed_cores : ℕ → Core
+  committed_cores = with_core prepared_cores 0 leader_committed
+
+  pub committed_run : Reached group committed_cores prepared_sent
+  committed_run =
+      next group prepared_cores prepared_sent 0 leader_committed [] prepared_run (omega arith, refl)
+      (commit leader_prepared 1 example_digest refl refl (three_have 0 1 2 (λ k. Told group prepared_sent k agreed) (omega arith) (inr (2, omega arith, refl)) (inr (1, omega arith, refl)) (inr (0, omega arith, refl)))) refl
 
 pub settles_in_view_zero : SettlesInViewZero
 settles_in_view_zero digest_of =

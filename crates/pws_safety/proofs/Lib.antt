@@ -9,3 +9,7 @@ pub mod Next
 pub mod Group
 pub mod FirstRun
 pub mod SecondRun
+pub mod Reports
+pub mod Ruled
+pub mod SecondVotes
+pub mod Forgetful

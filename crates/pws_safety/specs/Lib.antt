@@ -1,4 +1,5 @@
 pub mod Agreement
+pub mod Counterexamples
 pub mod Facts
 pub mod Kept
 pub mod Replicas
