@@ -19,7 +19,7 @@ use Rattle.pws_safety.specs.Counterexamples as rule
 use Rattle.pws_safety.proofs.Members.{nowhere}
 use Rattle.pws_safety.proofs.Slots.{none_some}
 use Rattle.pws_safety.proofs.FirstRun.{two_have, three_have, one_occurs, group, leader_committed, backup_prepared, committed_cores, prepared_sent, committed_run}
-use Rattle.pws_safety.proofs.Reports.{each_three, starts}
+use Rattle.pws_safety.proofs.Reports.{each_three, starts, no_slots, accepts_none, prepares_none, heard_is_had}
 use Rattle.pws_safety.proofs.Ruled.{without_rule, steps, follows, other_digest, digests_differ}
 
 -- a report of nothing
@@ -61,20 +61,6 @@ heard_in sent a b h k =
     (refl, record { replica = omega arith; told = inr b; in_view = refl; valid = report_valid; occurs = refl })
     (refl, record { replica = omega arith; told = inl refl; in_view = refl; valid = report_valid; occurs = refl }) h k
 
-had_in : (sent : Sent) → Contains sent (1, say.ViewChange empty_report) → Contains sent (2, say.ViewChange empty_report) → (h : Heard) → Contains heard h → IsHad g sent 1 h
-had_in sent a b h k =
-    let r = heard_in sent a b h k in
-    record { replica = r.1.replica; digest = r.0; in_view = r.1.in_view; valid = r.1.valid; occurs = r.1.occurs; source = inl r.1.told }
-
-abbrev no_slots : ℕ → Option Slot
-no_slots place = None
-
-accepts_none : (s : Core) → AcceptsChosen s new no_slots 0
-accepts_none s q x h = absurd (none_some x h)
-
-prepares_none : (s : Core) → PreparesChosen s new no_slots []
-prepares_none s = record { each = λ q x h. absurd (none_some x h); only = λ x h. absurd (nowhere x h) }
-
 abbrev base_cores : ℕ → Core
 base_cores = committed_cores same_digest (same_change empty_report)
 
@@ -113,9 +99,9 @@ new_run =
     let c3 : ℕ → Core = with_core c2 1 started in
     let t3 : Sent = (1, say.NewView new) ∷ t2 in
     let r3 : ReachedWith ForgetsSlots g c3 t3 = steps ForgetsSlots g c2 t2 1 started (say.NewView new ∷ []) r2 (omega arith, refl)
-        (offer moved new heard no_slots 0 refl refl refl agrees (heard_in t2 (1, omega arith, refl) (0, omega arith, refl)) (accepts_none moved)) refl in
+        (offer moved new heard no_slots 0 refl refl refl agrees (heard_in t2 (1, omega arith, refl) (0, omega arith, refl)) (accepts_none moved new)) refl in
     steps ForgetsSlots g c3 t3 2 entered [] r3 (omega arith, refl)
-    (enter moved new heard no_slots 0 [] refl (λ e. absurd (omega (arith, e))) refl (inr (0, omega arith, refl)) agrees (had_in t3 (2, omega arith, refl) (1, omega arith, refl)) (accepts_none moved) (prepares_none moved)) refl
+    (enter moved new heard no_slots 0 [] refl (λ e. absurd (omega (arith, e))) refl (inr (0, omega arith, refl)) agrees (λ h k. heard_is_had g t3 1 h (heard_in t3 (2, omega arith, refl) (1, omega arith, refl) h k)) (accepts_none moved new) (prepares_none moved new)) refl
 
 -- 1 proposes another digest, which is committed
 abbrev vote : Statement

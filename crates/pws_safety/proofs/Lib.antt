@@ -8,8 +8,10 @@ pub mod Behind
 pub mod Next
 pub mod Group
 pub mod FirstRun
-pub mod SecondRun
 pub mod Reports
+pub mod SecondRun
 pub mod Ruled
 pub mod SecondVotes
 pub mod Forgetful
+pub mod LowFloor
+pub mod Unwitnessed

@@ -1,5 +1,6 @@
 //! Why agreement holds.
 #![tactic(auto)]
 
+pub mod counterexamples;
 pub mod laws;
 pub mod witnesses;
