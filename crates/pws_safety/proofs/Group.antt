@@ -15,8 +15,8 @@ use Rattle.pws_safety.specs.Statements.{Group, Sent, Told, Gives, StandsBy, Stan
 use Rattle.pws_safety.specs.Voters.{Slot, Core, new_core, accepted, after_enter, AcceptsChosen, PreparesChosen, IsHeard, IsHad, report_of, Step, propose, accept, prepare, commit, lower, move, ack, offer, enter}
 use Rattle.pws_safety.specs.Kept.{Stood, TellsTrue, IsBehind, HasGrounds, HasReason, Keeps, GroupKeeps}
 use Rattle.pws_safety.specs.Facts.{Facts}
-use Rattle.pws_safety.specs.Runs.{Reached, start, step, Sends, IsTrusted, with_core}
-use Rattle.pws_safety.specs.Agreement.{MoreIsKept, HadIsBehind, CommittedIsSettled, StepsKeep, KeptGivesFacts, RunsKeep}
+use Rattle.pws_safety.specs.Runs.{Reached, start, step, again, Sends, IsTrusted, with_core}
+use Rattle.pws_safety.specs.Agreement.{RepeatsKeep, MoreIsKept, HadIsBehind, CommittedIsSettled, StepsKeep, KeptGivesFacts, RunsKeep}
 use Rattle.pws_safety.proofs.Members.{nowhere, here, there, first_or_rest}
 use Rattle.pws_safety.proofs.Counted.{at_least_weaker}
 use Rattle.pws_safety.proofs.Slots.{none_some, prepare_pledge, propose_pledge}
@@ -83,6 +83,7 @@ module _ (g : Group) (occurs : ViewChange → Bool) (backed : List ℕ → Bool)
     in_view = λ p d st. l.in_view p d (stood_back me s.said s.view p d st);
     one_digest = λ v p d e a b. l.one_digest v p d e (stood_back me s.said v p d a) (stood_back me s.said v p e b);
     one_change = l.one_change;
+    slot_last = l.slot_last;
     slot_above = l.slot_above;
     slot_stood = λ p t h. stood_same me s.said s.view p t.digest (l.slot_stood p t h);
     slot_primary = λ p t h. backs_more (primary g s.view) s.view p t.digest (l.slot_primary p t h);
@@ -118,6 +119,12 @@ module _ (g : Group) (before after : Sent) (stays : (k : ℕ) (x : Statement) �
 
   keeps_later : (me : ℕ) (s : Core) → Keeps g before me s → Keeps g after me s
   keeps_later me s l = keeps_more g g.occurs g.backed before after (λ c h. h) (λ d h. h) stays me s l
+
+named_fields : (h : Heard) (m : Named) → name_of h ≡ m → (h.index ≡ m.index) × (h.digest ≡ m.digest)
+named_fields h m e = (ap (λ (y : Named). y.index) e, ap (λ (y : Named). y.digest) e)
+
+same_view_of : (a : NewView) (x : Statement) → say.NewView a ≡ x → view_of x ≡ a.view
+same_view_of a x e = ap view_of (sym e)
 
 -- the steps of one replica, where its group kept the invariant before
 module _ (g : Group) (trusted : IsTrusted g) (cores : ℕ → Core) (before after : Sent) (kept : GroupKeeps g cores before) (stays : (k : ℕ) (x : Statement) → Contains before (k, x) → Contains after (k, x)) (me : ℕ) where
@@ -167,29 +174,35 @@ module _ (g : Group) (trusted : IsTrusted g) (cores : ℕ → Core) (before afte
     said_new = λ n h. absurd (let r = prepares.only (say.NewView n) h in let e = r.2 in cc);
     said_chosen = λ x h v p d st. (let r = prepares.only x h in let t = subst (λ y. StandsBy g me y v p d) r.2 st in
         (sym t.0, subst (λ y. Gives new.choice p y) t.2 (subst (λ y. Gives new.choice y r.1) t.1 r.3)));
+    slot_last = λ p t h. (accepts p t h).1;
     slot_new = λ p t h. (let r = accepts p t h in
         (r.0, r.3, (Prepare s.view p t.digest, prepares.each p t h, (refl, refl, refl)), start_backs s.view p t.digest new view r.2 told));
     in_view = view;
     grounds = grounds;
   }
 
+  -- what the primary names it heard
+  offered : (v : ℕ) (new : NewView) (heard : List Heard) → new.view ≡ v → Agrees g.f new heard → ((h : Heard) → Contains heard h → (g.digest_of h.change ≡ h.digest) × IsHeard g before v h.index h.change)
+      → (m : Named) → Contains new.named m → (c : ViewChange) × IsHeard g after new.view m.index c × (g.digest_of c ≡ m.digest)
+  offered v new heard view agrees each m k =
+      let r = named_from heard m (subst (λ ns. Contains ns m) agrees.named k) in
+      let x = each r.0 r.1 in
+      let names = named_fields r.0 m r.2 in
+      (r.0.change, heard_later g before after stays new.view m.index r.0.change (subst (λ y. IsHeard g before y m.index r.0.change) (sym view) (subst (λ y. IsHeard g before v y r.0.change) names.0 x.1)), x.0 ∙ names.1)
+
   enters_primary : (s : Core) (new : NewView) (heard : List Heard) (slots : ℕ → Option Slot) (last : ℕ) (l : Keeps g after me s) (still : s.active ≡ false) → me ≡ primary g s.view → new.view ≡ s.view
       → Contains after (me, say.NewView new) → Agrees g.f new heard → ((h : Heard) → Contains heard h → (g.digest_of h.change ≡ h.digest) × IsHeard g before s.view h.index h.change)
       → HasGrounds g after new → AcceptsChosen s new slots last
       → Enters g after me s new slots last (say.NewView new ∷ []) l still
   enters_primary s new heard slots last l still lead view own agrees each grounds accepts = record {
-    said_view = λ x h. let e = one x h in ap view_of (sym e) ∙ view;
+    said_view = λ x h. same_view_of new x (one x h) ∙ view;
     said_commit = λ v p d h. let e = one (Commit v p d) h in cc;
     said_change = λ c h. let e = one (say.ViewChange c) h in cc;
     said_ack = λ v j d h. let e = one (Ack v j d) h in cc;
-    said_new = λ n h m k. (let e = one (say.NewView n) h in let same : new ≡ n = cc in
-        let r = named_from heard m (subst (λ ns. Contains ns m) agrees.named (subst (λ (y : NewView). Contains y.named m) (sym same) k)) in
-        let x = each r.0 r.1 in
-        let at : r.0.index ≡ m.index = ap (λ (y : Named). y.index) r.2 in
-        let by : r.0.digest ≡ m.digest = ap (λ (y : Named). y.digest) r.2 in
-        let v : s.view ≡ n.view = sym view ∙ ap (λ (y : NewView). y.view) same in
-        (r.0.change, heard_later g before after stays n.view m.index r.0.change (subst (λ y. IsHeard g before y m.index r.0.change) v (subst (λ y. IsHeard g before s.view y r.0.change) at x.1)), x.0 ∙ by));
+    said_new = λ n h. (let e = one (say.NewView n) h in let same : new ≡ n = cc in
+        subst (λ (y : NewView). (m : Named) → Contains y.named m → (c : ViewChange) × IsHeard g after y.view m.index c × (g.digest_of c ≡ m.digest)) same (offered s.view new heard view agrees each));
     said_chosen = λ x h v p d st. (let t = subst (λ y. StandsBy g me y v p d) (sym (one x h)) st in (sym t.0 ∙ view, t.1));
+    slot_last = λ p t h. (accepts p t h).1;
     slot_new = λ p t h. (let r = accepts p t h in
         (r.0, r.3, (say.NewView new, here (say.NewView new) [], (view, r.2, lead)), start_backs s.view p t.digest new view r.2 (inr (subst (λ k. Contains after (k, say.NewView new)) lead own))));
     in_view = view;
@@ -232,6 +245,7 @@ new_keeps g sent me = record {
   in_view = λ p d st. absurd (nowhere st.0 st.1);
   one_digest = λ v p d e st. absurd (nowhere st.0 st.1);
   one_change = λ c e h. absurd (nowhere (say.ViewChange c) h);
+  slot_last = λ p t e. absurd (none_some t e);
   slot_above = λ p t e. absurd (none_some t e);
   slot_stood = λ p t e. absurd (none_some t e);
   slot_primary = λ p t e. absurd (none_some t e);
@@ -285,8 +299,16 @@ kept_gives_facts g cores sent sound kept =
       stands_on_a_choice = λ i v p d ci s. (kept.each i ci).reason v p d (own i ci v p d s);
     }
 
+pub repeats_keep : RepeatsKeep
+repeats_keep g cores before after kept repeats = record {
+  each = λ i ci. keeps_later g before after repeats.stays i (cores i) (kept.each i ci);
+  said = λ i ci x h. repeats.stays i x (kept.said i ci x h);
+  only_said = λ i ci x h. kept.only_said i ci x (repeats.nothing_new i x ci h);
+}
+
 runs_keep_from : (g : Group) → IsTrusted g → {cores : ℕ → Core} {sent : Sent} → Reached g cores sent → GroupKeeps g cores sent
 runs_keep_from g trusted start = start_keeps g
+runs_keep_from g trusted (again cores before after r repeats) = repeats_keep g cores before after (runs_keep_from g trusted r) repeats
 runs_keep_from g trusted (step cores before after i s r ci t sends) = steps_keep g cores before after i s trusted (runs_keep_from g trusted r) ci t sends
 
 pub runs_keep : RunsKeep

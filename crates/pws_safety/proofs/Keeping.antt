@@ -71,6 +71,7 @@ module _ (g : Group) (sent : Sent) (me : ℕ) where
           in_view = accept_in_view;
           one_digest = accept_one;
           one_change = λ c e h k. l.one_change c e (change_old g me x s.said c pl.no_change h) (change_old g me x s.said e pl.no_change k);
+          slot_last = each_slot (λ q t. q ≤ max s.last p) s.slot p (accepted d) (omega arith) (λ q t h. let k = l.slot_last q t h in omega arith);
           slot_above = each_slot (λ q t. s.low < q) s.slot p (accepted d) inside l.slot_above;
           slot_stood = each_slot (λ q t. Stood g me (x ∷ s.said) s.view q t.digest) s.slot p (accepted d) (x, here x s.said, pl.stands) (λ q t h. stood_more g me x s.said s.view q t.digest (l.slot_stood q t h));
           slot_primary = each_slot (λ q t. Backs g sent (primary g s.view) s.view q t.digest) s.slot p (accepted d) lead l.slot_primary;
@@ -147,6 +148,7 @@ module _ (g : Group) (sent : Sent) (me : ℕ) where
           in_view = prepare_in_view;
           one_digest = λ v q a b m n. l.one_digest v q a b (prepare_stood v q a m) (prepare_stood v q b n);
           one_change = λ c e h k. l.one_change c e (prior c h) (prior e k);
+          slot_last = each_slot (λ q t. q ≤ s.last) s.slot p prepared_slot (l.slot_last p _ at) l.slot_last;
           slot_above = each_slot (λ q t. s.low < q) s.slot p prepared_slot (l.slot_above p _ at) l.slot_above;
           slot_stood = each_slot (λ q t. Stood g me (x ∷ s.said) s.view q t.digest) s.slot p prepared_slot (stood_more g me x s.said s.view p d (l.slot_stood p _ at)) (λ q t h. stood_more g me x s.said s.view q t.digest (l.slot_stood q t h));
           slot_primary = each_slot (λ q t. Backs g sent (primary g s.view) s.view q t.digest) s.slot p prepared_slot (l.slot_primary p _ at) l.slot_primary;
@@ -190,6 +192,7 @@ module _ (g : Group) (sent : Sent) (me : ℕ) where
           in_view = λ q e st. elim (l.in_view q e st) [ inl a ↦ inl a | inr a ↦ inr (a.0, a.1, λ lw. commit_same q e (a.2 lw)) ];
           one_digest = l.one_digest;
           one_change = l.one_change;
+          slot_last = each_slot (λ q t. q ≤ s.last) s.slot p committed_slot (l.slot_last p _ at) l.slot_last;
           slot_above = each_slot (λ q t. s.low < q) s.slot p committed_slot (l.slot_above p _ at) l.slot_above;
           slot_stood = each_slot (λ q t. Stood g me s.said s.view q t.digest) s.slot p committed_slot (l.slot_stood p _ at) l.slot_stood;
           slot_primary = each_slot (λ q t. Backs g sent (primary g s.view) s.view q t.digest) s.slot p committed_slot (l.slot_primary p _ at) l.slot_primary;
@@ -215,6 +218,7 @@ module _ (g : Group) (sent : Sent) (me : ℕ) where
         in_view = λ q e st. elim (l.in_view q e st) [ inl a ↦ inl a | inr a ↦ inr (a.0, a.1, λ lw. let k = a.2 (omega (arith, lw)) in (k.0, above_kept s.slot low q lw ∙ k.1, k.2)) ];
         one_digest = l.one_digest;
         one_change = l.one_change;
+        slot_last = λ q x e. l.slot_last q x (above_is s.slot low q x e).1;
         slot_above = λ q x e. (above_is s.slot low q x e).0;
         slot_stood = λ q x e. l.slot_stood q x (above_is s.slot low q x e).1;
         slot_primary = λ q x e. l.slot_primary q x (above_is s.slot low q x e).1;
@@ -325,6 +329,7 @@ module _ (g : Group) (sent : Sent) (me : ℕ) where
           in_view = λ q e st. absurd (move_none q e st);
           one_digest = λ v q a b m n. l.one_digest v q a b (move_stood v q a m) (move_stood v q b n);
           one_change = move_one;
+          slot_last = λ q x e. absurd (none_some x e);
           slot_above = λ q x e. absurd (none_some x e);
           slot_stood = λ q x e. absurd (none_some x e);
           slot_primary = λ q x e. absurd (none_some x e);
@@ -373,6 +378,7 @@ module _ (g : Group) (sent : Sent) (me : ℕ) where
           in_view = λ q e st. l.in_view q e (ack_stood s.view q e st);
           one_digest = λ v q a b m n. l.one_digest v q a b (ack_stood v q a m) (ack_stood v q b n);
           one_change = λ a b h k. l.one_change a b (ack_change a h) (ack_change b k);
+          slot_last = l.slot_last;
           slot_above = l.slot_above;
           slot_stood = λ q t h. stood_more g me own_ack s.said s.view q t.digest (l.slot_stood q t h);
           slot_primary = l.slot_primary;
@@ -398,6 +404,7 @@ module _ (g : Group) (sent : Sent) (me : ℕ) where
       pub said_ack : (v j : ℕ) (d : List ℕ) → Contains xs (Ack v j d) → ⊥
       pub said_new : (n : NewView) → Contains xs (say.NewView n) → (m : Named) → Contains n.named m → (c : ViewChange) × IsHeard g sent n.view m.index c × (g.digest_of c ≡ m.digest)
       pub said_chosen : (x : Statement) → Contains xs x → (v p : ℕ) (d : List ℕ) → StandsBy g me x v p d → (v ≡ s.view) × Gives new.choice p d
+      pub slot_last : (p : ℕ) (t : Slot) → slots p ≡ Some t → p ≤ last
       pub slot_new : (p : ℕ) (t : Slot) → slots p ≡ Some t → (s.low < p) × (t ≡ accepted t.digest) × Stood g me xs s.view p t.digest × Backs g sent (primary g s.view) s.view p t.digest
       pub in_view : new.view ≡ s.view
       pub grounds : HasGrounds g sent new
@@ -451,6 +458,7 @@ module _ (g : Group) (sent : Sent) (me : ℕ) where
             in_view = λ q e st. elim (enter_split s.view q e st) [ inl k ↦ inl (k.1.1, (new, refl, k.1)) | inr o ↦ absurd (l.idle still q e o) ];
             one_digest = enter_one;
             one_change = λ a b h k. l.one_change a b (enter_change a h) (enter_change b k);
+            slot_last = t.slot_last;
             slot_above = λ q x h. (t.slot_new q x h).0;
             slot_stood = λ q x h. let r = (t.slot_new q x h).2 in (r.0, Contains-append_left xs s.said _ r.1, r.2);
             slot_primary = λ q x h. (t.slot_new q x h).3;

@@ -6,7 +6,7 @@ use Rattle.std.proofs.lemmas.List.Elements.{Contains-append_left, Contains-appen
 use Rattle.pws_safety.specs.Statement.{Statement}
 use Rattle.pws_safety.specs.Statements.{Group, Sent, IsCorrect}
 use Rattle.pws_safety.specs.Voters.{Core, new_core, Step}
-use Rattle.pws_safety.specs.Runs.{Reached, start, step, Sends, with_core}
+use Rattle.pws_safety.specs.Runs.{Reached, start, step, again, Sends, Repeats, with_core}
 use Rattle.pws_safety.proofs.Members.{nowhere, here, there, first_or_rest}
 
 -- statements with their sender
@@ -53,8 +53,12 @@ linked_step g cores before after i s l sends =
       ];
     }
 
+pub linked_again : (g : Group) (cores : ℕ → Core) (before after : Sent) → IsLinked g cores before → Repeats g before after → IsLinked g cores after
+linked_again g cores before after l repeats = record { said = λ i ci x h. repeats.stays i x (l.said i ci x h); only_said = λ i ci x h. l.only_said i ci x (repeats.nothing_new i x ci h) }
+
 linked_run_from : (g : Group) {cores : ℕ → Core} {sent : Sent} → Reached g cores sent → IsLinked g cores sent
 linked_run_from g start = linked_start g
+linked_run_from g (again cores before after r repeats) = linked_again g cores before after (linked_run_from g r) repeats
 linked_run_from g (step cores before after i s r ci t sends) = linked_step g cores before after i s (linked_run_from g r) sends
 
 -- a step says these statements, and they are sent

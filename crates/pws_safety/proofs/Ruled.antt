@@ -12,20 +12,22 @@ use Rattle.pws_safety.specs.Voters.{Slot, Core, new_core, accepted, after_accept
 use Rattle.pws_safety.specs.Runs.{Reached, Sends, IsTrusted, with_core}
 use Rattle.pws_safety.specs.Runs as run
 use Rattle.pws_safety.specs.Witnesses.{example_digest}
-use Rattle.pws_safety.specs.Counterexamples.{ReachedWith, start, step, ruled, Misleads, QuorumOfTwoF, VotesTwice}
+use Rattle.pws_safety.specs.Counterexamples.{ReachedWith, start, step, again, ruled, Misleads, QuorumOfTwoF, VotesTwice}
 use Rattle.pws_safety.specs.Counterexamples as rule
-use Rattle.pws_safety.proofs.Next.{said_by, IsLinked, linked_start, linked_step, sends_next}
+use Rattle.pws_safety.proofs.Next.{said_by, IsLinked, linked_start, linked_step, linked_again, sends_next}
 use Rattle.pws_safety.proofs.FirstRun.{two_have}
 
 module _ (Rule : Group → Sent → ℕ → Core → Core → Type 0) (g : Group) where
   ruled_linked : {cores : ℕ → Core} {sent : Sent} → ReachedWith Rule g cores sent → IsLinked g cores sent
   ruled_linked start = linked_start g
+  ruled_linked (again cores before after r repeats) = linked_again g cores before after (ruled_linked r) repeats
   ruled_linked (step cores before after i s r ci t sends) = linked_step g cores before after i s (ruled_linked r) sends
   ruled_linked (ruled cores before after i s r ci t sends) = linked_step g cores before after i s (ruled_linked r) sends
 
   -- a run of the rules alone is one
   pub without_rule : {cores : ℕ → Core} {sent : Sent} → Reached g cores sent → ReachedWith Rule g cores sent
   without_rule run.start = start
+  without_rule (run.again cores before after r repeats) = again cores before after (without_rule r) repeats
   without_rule (run.step cores before after i s r ci t sends) = step cores before after i s (without_rule r) ci t sends
 
   pub steps : (cores : ℕ → Core) (sent : Sent) (i : ℕ) (s : Core) (xs : List Statement) → ReachedWith Rule g cores sent → IsCorrect g i → Step g sent i (cores i) s → s.said ≡ xs ++ (cores i).said

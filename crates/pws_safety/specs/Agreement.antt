@@ -15,7 +15,7 @@ use Rattle.pws_safety.specs.Statements.{Group, Sent, Told, StandsFor, IsSettled,
 use Rattle.pws_safety.specs.Voters.{Slot, Core, IsHad, Step}
 use Rattle.pws_safety.specs.Kept.{IsBehind, GroupKeeps}
 use Rattle.pws_safety.specs.Facts.{Facts}
-use Rattle.pws_safety.specs.Runs.{Reached, Sends, IsTrusted, with_core}
+use Rattle.pws_safety.specs.Runs.{Reached, Sends, Repeats, IsTrusted, with_core}
 
 -- a digest that is settled at a place is the only one for which a correct replica stands there in a later view
 abbrev pub SettledStays : Group → Sent → Type 0
@@ -49,7 +49,11 @@ StepsKeep =
     → GroupKeeps g cores before → IsCorrect g i → Step g before i (cores i) s → Sends g i s before after
     → GroupKeeps g (with_core cores i s) after
 
--- so does all that only makes more view changes occur and more events backed
+-- so does what is only sent again, or by compromised replicas
+abbrev pub RepeatsKeep : Type 0
+RepeatsKeep = (g : Group) (cores : ℕ → Core) (before after : Sent) → GroupKeeps g cores before → Repeats g before after → GroupKeeps g cores after
+
+-- and all that only makes more view changes occur and more events backed
 abbrev pub MoreIsKept : Type 0
 MoreIsKept =
     (g : Group) (occurs : ViewChange → Bool) (backed : List ℕ → Bool) (cores : ℕ → Core) (sent : Sent)

@@ -17,7 +17,7 @@ use Rattle.pws_safety.specs.Statement.{Statement, PrePrepare, Prepare, Commit}
 use Rattle.pws_safety.specs.Statement as say
 use Rattle.pws_safety.specs.Statements.{Group, Sent, Told, IsCorrect, size, primary}
 use Rattle.pws_safety.specs.Voters.{Slot, Core, new_core, accepted, after_accept, after_prepare, after_commit, after_move, after_enter, AcceptsChosen, PreparesChosen, IsHeard, IsHad, Step}
-use Rattle.pws_safety.specs.Runs.{Sends, IsTrusted, with_core}
+use Rattle.pws_safety.specs.Runs.{Sends, Repeats, IsTrusted, with_core}
 
 -- the states and statements that a group can reach where correct replicas follow one more rule
 pub data ReachedWith (Rule : Group → Sent → ℕ → Core → Core → Type 0) (g : Group) : (ℕ → Core) → Sent → Type 0 where
@@ -26,6 +26,7 @@ pub data ReachedWith (Rule : Group → Sent → ℕ → Core → Core → Type 0
       (cores : ℕ → Core) (before after : Sent) (i : ℕ) (s : Core)
       → ReachedWith Rule g cores before → IsCorrect g i → Step g before i (cores i) s → Sends g i s before after
       → ReachedWith Rule g (with_core cores i s) after
+  again : (cores : ℕ → Core) (before after : Sent) → ReachedWith Rule g cores before → Repeats g before after → ReachedWith Rule g cores after
   ruled :
       (cores : ℕ → Core) (before after : Sent) (i : ℕ) (s : Core)
       → ReachedWith Rule g cores before → IsCorrect g i → Rule g before i (cores i) s → Sends g i s before after

@@ -73,7 +73,9 @@ pub record Keeps (g : Group) (sent : Sent) (me : ℕ) (s : Core) : Type 0 where
   -- one voice a view: it stands for at most one digest at a place of a view, and reports once a view
   pub one_digest : (view place : ℕ) (d e : List ℕ) → Stood g me s.said view place d → Stood g me s.said view place e → d ≡ e
   pub one_change : (c e : ViewChange) → Contains s.said (say.ViewChange c) → Contains s.said (say.ViewChange e) → c.view ≡ e.view → c ≡ e
-  -- each slot is above the low mark, it stands for its digest, and so does the primary, if that one is correct
+  -- each slot is above the low mark, not above `last`, it stands for its digest, and so does the primary, if that one
+  -- is correct
+  pub slot_last : (place : ℕ) (slot : Slot) → s.slot place ≡ Some slot → place ≤ s.last
   pub slot_above : (place : ℕ) (slot : Slot) → s.slot place ≡ Some slot → s.low < place
   pub slot_stood : (place : ℕ) (slot : Slot) → s.slot place ≡ Some slot → Stood g me s.said s.view place slot.digest
   pub slot_primary : (place : ℕ) (slot : Slot) → s.slot place ≡ Some slot → Backs g sent (primary g s.view) s.view place slot.digest

@@ -19,6 +19,12 @@ pub record Sends (g : Group) (i : ℕ) (s : Core) (before after : Sent) : Type 0
   pub only_own : (x : Statement) → Contains after (i, x) → Contains s.said x
   pub others : (k : ℕ) (x : Statement) → IsCorrect g k → (k ≡ i → ⊥) → Contains after (k, x) → Contains before (k, x)
 
+-- what was sent stays sent, and of correct replicas nothing else is: they sent something again, or compromised ones
+-- something new
+pub record Repeats (g : Group) (before after : Sent) : Type 0 where
+  pub stays : (k : ℕ) (x : Statement) → Contains before (k, x) → Contains after (k, x)
+  pub nothing_new : (k : ℕ) (x : Statement) → IsCorrect g k → Contains after (k, x) → Contains before (k, x)
+
 -- the states and statements that a group can reach. A step hears by `Told`: what a correct replica sent before, any
 -- number of times or never, and of a compromised one whatever it may say
 pub data Reached (g : Group) : (ℕ → Core) → Sent → Type 0 where
@@ -27,6 +33,7 @@ pub data Reached (g : Group) : (ℕ → Core) → Sent → Type 0 where
       (cores : ℕ → Core) (before after : Sent) (i : ℕ) (s : Core)
       → Reached g cores before → IsCorrect g i → Step g before i (cores i) s → Sends g i s before after
       → Reached g (with_core cores i s) after
+  again : (cores : ℕ → Core) (before after : Sent) → Reached g cores before → Repeats g before after → Reached g cores after
 
 -- no two view changes of the run have one digest
 abbrev pub NoCollision : Group → Type 0

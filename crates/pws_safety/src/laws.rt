@@ -1,7 +1,7 @@
 //! Why agreement holds: each law is the contract of a function that does nothing.
 
 ghost use Rattle.pws_safety.specs.Replicas.{QuorumsMeet, QuorumMeetsWeak, WeakHasCorrect, SendersAreDistinct};
-ghost use Rattle.pws_safety.specs.Agreement.{FactsGiveAgreement, QuorumSettles, StepsKeep, MoreIsKept, HadIsBehind, CommittedIsSettled, KeptGivesFacts, RunsKeep, RunsAgree};
+ghost use Rattle.pws_safety.specs.Agreement.{FactsGiveAgreement, QuorumSettles, StepsKeep, RepeatsKeep, MoreIsKept, HadIsBehind, CommittedIsSettled, KeptGivesFacts, RunsKeep, RunsAgree};
 
 use pws_change::laws::what_is_covered_is_kept;
 
@@ -31,9 +31,11 @@ pub fn quorum_settles()
     ensures { QuorumSettles }
 {}
 
-/// Each step of a correct replica keeps the invariant of its group, whatever the compromised ones say.
+/// Each step of a correct replica keeps the invariant of its group, whatever the compromised ones say; and so does
+/// what is only sent again.
 pub fn steps_keep()
-    ensures { StepsKeep }
+    ensures step { StepsKeep }
+    ensures repeats { RepeatsKeep }
 {}
 
 /// The invariant stands as more view changes occur and more events are backed.
