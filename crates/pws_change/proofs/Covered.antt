@@ -1,8 +1,7 @@
 -- The law of the choice.
 use Rattle.std.proofs.Common.{◌≡◌, ℕ, ◌+◌, ◌<◌, ◌≤◌, ◌⊎◌, inl, inr, ◌&&◌, not, nat_lt, nat_le, Bool, true, max, List, [], ◌∷◌, All, sym, ◌∙◌, ◌==◌, arith}
 use Rattle.std.specs.List.{list_any, list_all, count_by, fold}
-use Rattle.std.proofs.lemmas.Bool.{false≢true, and_parts, and_from, and_cases, not-true, not-false, or_cases, or_left, or_right, eq-eqb, ltb-true, eqb-true, leb-true, lt-ltb, le-leb}
-use Rattle.std.proofs.lemmas.List.Folds.{list_any-append}
+use Rattle.std.proofs.lemmas.Bool.{false≢true, and_parts, and_from, and_cases, not-true, not-false, or_cases, eq-eqb, ltb-true, eqb-true, leb-true, lt-ltb, le-leb}
 use Rattle.std.proofs.lemmas.Slice.Eq.{bytes_eq-Decides}
 use Rattle.pws_base.specs.Shapes.{quorum_of, weak_of}
 use Rattle.pws_msg.specs.declared.changes.PRow.{PRow}
@@ -14,7 +13,7 @@ use Rattle.pws_change.specs.Choices.{MeetsA, IsChoice, prepared_rows, highest_pl
 use Rattle.pws_change.specs.Laws.{EachQuorumCovers, CoveredIsKept, HardlyLackedIsKept}
 use Rattle.pws_change.specs.Rising.{rises}
 use Rattle.pws_change.specs.Valid.{IsValid, is_above, is_p_row_valid}
-use Rattle.pws_change.proofs.Counted.{any_more, any_differs, any_of_all, any_all, any_is}
+use Rattle.pws_change.proofs.Counted.{list_any-flat_map, any_more, any_differs, any_of_all, any_all, any_is}
 
 -- what a row says that is from an entry on
 pub row_from : (place : ℕ) (digest : List ℕ) (view : ℕ) (r : PRow) → is_row_from place digest view r ≡ true → (r.place ≡ place) × ((view < r.view) ⊎ ((r.view ≡ view) × (r.digest ≡ digest)))
@@ -58,19 +57,9 @@ fold_max_any p a (r ∷ rows) h =
     let more : list_any (λ r. nat_le p r.place) rows ≡ true → p ≤ fold (λ n r. max n r.place) a (r ∷ rows) = λ g. fold_max_any p (max a r.place) rows g in
     elim (or_cases (nat_le p r.place) (list_any (λ r. nat_le p r.place) rows) h) [ inl g ↦ omega (arith, leb-true p r.place g, fold_max_above (max a r.place) rows) | inr g ↦ more g ]
 
-any_row : (q : PRow → Bool) (changes : List Heard) → list_any (λ h. list_any q h.change.prepared) changes ≡ true → list_any q (prepared_rows changes) ≡ true
-any_row q [] h = absurd (false≢true h)
-any_row q (c ∷ cs) h =
-    let more : list_any (λ h. list_any q h.change.prepared) cs ≡ true → list_any q (prepared_rows cs) ≡ true = λ g. any_row q cs g in
-    list_any-append q c.change.prepared (prepared_rows cs)
-    ∙ elim (or_cases (list_any q c.change.prepared) (list_any (λ h. list_any q h.change.prepared) cs) h) [
-      | inl g ↦ or_left (list_any q c.change.prepared) (list_any q (prepared_rows cs)) g
-      | inr g ↦ or_right (list_any q c.change.prepared) (list_any q (prepared_rows cs)) (more g)
-    ]
-
 -- a place that is named, or below one that is, is at or below the highest
 below_highest : (place : ℕ) (changes : List Heard) → list_any (λ h. list_any (λ r. nat_le place r.place) h.change.prepared) changes ≡ true → place ≤ highest_place changes
-below_highest place changes h = fold_max_any place 0 (prepared_rows changes) (any_row (λ r. nat_le place r.place) changes h)
+below_highest place changes h = fold_max_any place 0 (prepared_rows changes) (list_any-flat_map (λ h. h.change.prepared) (λ r. nat_le place r.place) changes ∙ h)
 
 covers_named : (place : ℕ) (d : List ℕ) (v : ℕ) (h : Heard) → covers place d v h ≡ true → list_any (λ r. nat_le place r.place) h.change.prepared ≡ true
 covers_named place d v h e = any_more (is_row_from place d v) (λ r. nat_le place r.place) h.change.prepared (λ r k. (let c = (row_from place d v r k).0 in le-leb place r.place (omega arith))) e

@@ -1,4 +1,5 @@
 pub mod Agreements
+pub mod Best
 pub mod Changes
 pub mod Choices
 pub mod Laws
