@@ -1,12 +1,10 @@
 -- The view changes behind a NEW_VIEW: each of a correct replica is one that it sent, however it was had.
-use Rattle.std.proofs.Common.{ℕ, ◌+◌, ◌%◌, ◌<◌, ◌≤◌, ◌≡◌, ◌⊎◌, inl, inr, Bool, true, false, not, ◌&&◌, ◌||◌, refl, sym, ap, ◌∙◌, subst, List, [], ◌∷◌, map, ◌==◌, arith}
+use Rattle.std.proofs.Common.{ℕ, ◌<◌, ◌≡◌, inl, inr, Bool, true, false, not, ◌&&◌, ◌||◌, refl, sym, ap, ◌∙◌, subst, List, [], ◌∷◌, map, ◌==◌, arith}
 use Rattle.std.specs.Prelude.{nat_lt}
 use Rattle.std.specs.List.{Contains, list_all}
 use Rattle.std.proofs.lemmas.Bool.{true≢false, and_parts, and_left, and_cases, not-true, not-false, not_from_true, cases_Bool, or_cases, eq-eqb, eqb-true, leb-true}
-use Rattle.pws_base.specs.Counts.{count_below}
 use Rattle.pws_msg.specs.declared.changes.Named.{Named}
 use Rattle.pws_msg.specs.declared.changes.ViewChange.{ViewChange}
-use Rattle.pws_msg.specs.declared.changes.Choice.{Choice}
 use Rattle.pws_msg.specs.declared.changes.NewView.{NewView}
 use Rattle.pws_change.specs.declared.heard.Heard.{Heard}
 use Rattle.pws_change.specs.Agreements.{Agrees, name_of}

@@ -1,5 +1,5 @@
 -- The example group, and its run in view 0.
-use Rattle.std.proofs.Common.{ℕ, ◌+◌, ◌<◌, ◌≤◌, ◌≡◌, ◌⊎◌, inl, inr, Bool, true, false, ◌&&◌, ◌||◌, refl, sym, ap, ◌∙◌, subst, List, [], ◌∷◌, ◌++◌, ◌==◌, Option, Some, None, arith}
+use Rattle.std.proofs.Common.{ℕ, ◌≤◌, ◌≡◌, inl, inr, Bool, true, false, ◌&&◌, ◌||◌, refl, sym, ◌∙◌, subst, List, [], ◌∷◌, ◌==◌, arith}
 use Rattle.std.specs.List.{Contains}
 use Rattle.std.specs.Str.{bytes_eq}
 use Rattle.std.proofs.lemmas.Bool.{false≢true, and_parts, or_cases, eqb-true}
@@ -12,8 +12,8 @@ use Rattle.pws_msg.specs.declared.changes.ViewChange.{ViewChange}
 use Rattle.pws_base.specs.Counts.{count_below}
 use Rattle.pws_safety.specs.Replicas.{AtLeast}
 use Rattle.pws_safety.specs.Statement.{Statement, PrePrepare, Prepare, Commit}
-use Rattle.pws_safety.specs.Statements.{Group, Sent, Told, IsSettled, size, primary}
-use Rattle.pws_safety.specs.Voters.{Slot, Core, new_core, accepted, after_accept, after_prepare, after_commit, Step, propose, accept, prepare, commit}
+use Rattle.pws_safety.specs.Statements.{Group, Sent, Told, IsSettled, primary}
+use Rattle.pws_safety.specs.Voters.{Core, new_core, after_accept, after_prepare, after_commit, propose, accept, prepare, commit}
 use Rattle.pws_safety.specs.Runs.{Reached, start, IsTrusted, with_core}
 use Rattle.pws_safety.specs.Witnesses.{example_digest, example_report, same_items, same_checkpoint, same_p_row, same_seen, same_q_row, same_change, example_group, WitnessIsTrusted, SettlesInViewZero}
 use Rattle.pws_safety.proofs.Next.{next}
@@ -151,11 +151,11 @@ module _ (digest_of : ViewChange → List ℕ) (occurs : ViewChange → Bool) wh
       let c1 : ℕ → Core = with_core accepted_cores 0 leader_prepared in
       let t1 : Sent = (0, agreed) ∷ accepted_sent in
       let r1 : Reached group c1 t1 = next group accepted_cores accepted_sent 0 leader_prepared (agreed ∷ []) accepted_run (omega arith, refl)
-          (prepare leader 1 example_digest refl refl (two_have 1 2 (λ k. (k ≡ primary group 0 → ⊥) × Told group accepted_sent k voted) (omega arith) (λ e. absurd (omega (arith, e)), inr (1, omega arith, refl)) (λ e. absurd (omega (arith, e)), inr (0, omega arith, refl)))) refl in
+      (prepare leader 1 example_digest refl refl (two_have 1 2 (λ k. (k ≡ primary group 0 → ⊥) × Told group accepted_sent k voted) (omega arith) (λ e. absurd (omega (arith, e)), inr (1, omega arith, refl)) (λ e. absurd (omega (arith, e)), inr (0, omega arith, refl)))) refl in
       let c2 : ℕ → Core = with_core c1 1 backup_prepared in
       let t2 : Sent = (1, agreed) ∷ t1 in
       let r2 : Reached group c2 t2 = next group c1 t1 1 backup_prepared (agreed ∷ []) r1 (omega arith, refl)
-          (prepare backup 1 example_digest refl refl (two_have 1 2 (λ k. (k ≡ primary group 0 → ⊥) × Told group t1 k voted) (omega arith) (λ e. absurd (omega (arith, e)), inr (2, omega arith, refl)) (λ e. absurd (omega (arith, e)), inr (1, omega arith, refl)))) refl in
+      (prepare backup 1 example_digest refl refl (two_have 1 2 (λ k. (k ≡ primary group 0 → ⊥) × Told group t1 k voted) (omega arith) (λ e. absurd (omega (arith, e)), inr (2, omega arith, refl)) (λ e. absurd (omega (arith, e)), inr (1, omega arith, refl)))) refl in
       next group c2 t2 2 backup_prepared (agreed ∷ []) r2 (omega arith, refl)
       (prepare backup 1 example_digest refl refl (two_have 1 2 (λ k. (k ≡ primary group 0 → ⊥) × Told group t2 k voted) (omega arith) (λ e. absurd (omega (arith, e)), inr (3, omega arith, refl)) (λ e. absurd (omega (arith, e)), inr (2, omega arith, refl)))) refl
 

@@ -1,6 +1,5 @@
 -- Replicas that forget, as they move, what they prepared: the new view chooses nothing, and settles another digest.
-use Rattle.std.proofs.Common.{ℕ, ◌+◌, ◌<◌, ◌≤◌, ◌≡◌, ◌⊎◌, inl, inr, Bool, refl, sym, ap, ◌∙◌, subst, List, [], ◌∷◌, Option, Some, None, arith}
-use Rattle.std.specs.Prelude.{IsTrue}
+use Rattle.std.proofs.Common.{ℕ, ◌≡◌, inl, inr, refl, List, [], ◌∷◌, arith}
 use Rattle.std.specs.List.{Contains}
 use Rattle.pws_msg.specs.declared.changes.NewView.{NewView}
 use Rattle.pws_msg.specs.declared.changes.ViewChange.{ViewChange}
@@ -11,14 +10,12 @@ use Rattle.pws_change.specs.Valid.{IsValid}
 use Rattle.pws_safety.specs.Statement.{Statement, PrePrepare, Prepare, Commit}
 use Rattle.pws_safety.specs.Statement as say
 use Rattle.pws_safety.specs.Statements.{Group, Sent, Told, primary}
-use Rattle.pws_safety.specs.Voters.{Slot, Core, after_accept, after_prepare, after_commit, after_move, after_enter, AcceptsChosen, PreparesChosen, IsHeard, IsHad, propose, accept, prepare, commit, offer, enter}
+use Rattle.pws_safety.specs.Voters.{Core, after_accept, after_prepare, after_commit, after_move, after_enter, IsHeard, propose, accept, prepare, commit, offer, enter}
 use Rattle.pws_safety.specs.Runs.{with_core}
 use Rattle.pws_safety.specs.Witnesses.{example_digest, first_checkpoint, same_change}
 use Rattle.pws_safety.specs.Counterexamples.{ReachedWith, Misleads, ForgetsSlots}
 use Rattle.pws_safety.specs.Counterexamples as rule
-use Rattle.pws_safety.proofs.Members.{nowhere}
-use Rattle.pws_safety.proofs.Slots.{none_some}
-use Rattle.pws_safety.proofs.FirstRun.{two_have, three_have, one_occurs, group, leader_committed, backup_prepared, committed_cores, prepared_sent, committed_run}
+use Rattle.pws_safety.proofs.FirstRun.{two_have, three_have, one_occurs, group, backup_prepared, committed_cores, prepared_sent, committed_run}
 use Rattle.pws_safety.proofs.Reports.{each_three, starts, no_slots, accepts_none, prepares_none, heard_is_had}
 use Rattle.pws_safety.proofs.Ruled.{without_rule, steps, follows, other_digest, digests_differ}
 
@@ -92,14 +89,14 @@ new_run =
     let c1 : ℕ → Core = with_core base_cores 1 moved in
     let t1 : Sent = (1, report) ∷ base_sent in
     let r1 : ReachedWith ForgetsSlots g c1 t1 = follows ForgetsSlots g base_cores base_sent 1 moved (report ∷ []) (without_rule ForgetsSlots g (committed_run same_digest (same_change empty_report))) (omega arith, refl)
-        (rule.ForgetsSlots.move backup 1 (first_checkpoint ∷ []) (omega arith)) refl in
+    (rule.ForgetsSlots.move backup 1 (first_checkpoint ∷ []) (omega arith)) refl in
     let c2 : ℕ → Core = with_core c1 2 moved in
     let t2 : Sent = (2, report) ∷ t1 in
     let r2 : ReachedWith ForgetsSlots g c2 t2 = follows ForgetsSlots g c1 t1 2 moved (report ∷ []) r1 (omega arith, refl) (rule.ForgetsSlots.move backup 1 (first_checkpoint ∷ []) (omega arith)) refl in
     let c3 : ℕ → Core = with_core c2 1 started in
     let t3 : Sent = (1, say.NewView new) ∷ t2 in
     let r3 : ReachedWith ForgetsSlots g c3 t3 = steps ForgetsSlots g c2 t2 1 started (say.NewView new ∷ []) r2 (omega arith, refl)
-        (offer moved new heard no_slots 0 refl refl refl agrees (heard_in t2 (1, omega arith, refl) (0, omega arith, refl)) (accepts_none moved new)) refl in
+    (offer moved new heard no_slots 0 refl refl refl agrees (heard_in t2 (1, omega arith, refl) (0, omega arith, refl)) (accepts_none moved new)) refl in
     steps ForgetsSlots g c3 t3 2 entered [] r3 (omega arith, refl)
     (enter moved new heard no_slots 0 [] refl (λ e. absurd (omega (arith, e))) refl (inr (0, omega arith, refl)) agrees (λ h k. heard_is_had g t3 1 h (heard_in t3 (2, omega arith, refl) (1, omega arith, refl) h k)) (accepts_none moved new) (prepares_none moved new)) refl
 
@@ -130,15 +127,15 @@ last_run =
     let c2 : ℕ → Core = with_core c1 2 voted in
     let t2 : Sent = (2, vote) ∷ t1 in
     let r2 : ReachedWith ForgetsSlots g c2 t2 = steps ForgetsSlots g c1 t1 2 voted (vote ∷ []) r1 (omega arith, refl)
-        (accept entered 1 other_digest refl (λ e. absurd (omega (arith, e))) (omega arith) (omega arith) refl refl (inr (0, omega arith, refl))) refl in
+    (accept entered 1 other_digest refl (λ e. absurd (omega (arith, e))) (omega arith) (omega arith) refl refl (inr (0, omega arith, refl))) refl in
     let c3 : ℕ → Core = with_core c2 1 (after_prepare proposed 1 other_digest) in
     let t3 : Sent = (1, agree) ∷ t2 in
     let r3 : ReachedWith ForgetsSlots g c3 t3 = steps ForgetsSlots g c2 t2 1 (after_prepare proposed 1 other_digest) (agree ∷ []) r2 (omega arith, refl)
-        (prepare proposed 1 other_digest refl refl (two_have 2 3 (λ k. (k ≡ primary g 1 → ⊥) × Told g t2 k vote) (omega arith) (λ e. absurd (omega (arith, e)), inr (0, omega arith, refl)) (λ e. absurd (omega (arith, e)), inl refl))) refl in
+    (prepare proposed 1 other_digest refl refl (two_have 2 3 (λ k. (k ≡ primary g 1 → ⊥) × Told g t2 k vote) (omega arith) (λ e. absurd (omega (arith, e)), inr (0, omega arith, refl)) (λ e. absurd (omega (arith, e)), inl refl))) refl in
     let c4 : ℕ → Core = with_core c3 2 (after_prepare voted 1 other_digest) in
     let t4 : Sent = (2, agree) ∷ t3 in
     let r4 : ReachedWith ForgetsSlots g c4 t4 = steps ForgetsSlots g c3 t3 2 (after_prepare voted 1 other_digest) (agree ∷ []) r3 (omega arith, refl)
-        (prepare voted 1 other_digest refl refl (two_have 2 3 (λ k. (k ≡ primary g 1 → ⊥) × Told g t3 k vote) (omega arith) (λ e. absurd (omega (arith, e)), inr (1, omega arith, refl)) (λ e. absurd (omega (arith, e)), inl refl))) refl in
+    (prepare voted 1 other_digest refl refl (two_have 2 3 (λ k. (k ≡ primary g 1 → ⊥) × Told g t3 k vote) (omega arith) (λ e. absurd (omega (arith, e)), inr (1, omega arith, refl)) (λ e. absurd (omega (arith, e)), inl refl))) refl in
     steps ForgetsSlots g c4 t4 1 (after_commit (after_prepare proposed 1 other_digest) 1 other_digest) [] r4 (omega arith, refl)
     (commit (after_prepare proposed 1 other_digest) 1 other_digest refl refl (three_have 1 2 3 (λ k. Told g t4 k agree) (omega arith) (inr (1, omega arith, refl)) (inr (0, omega arith, refl)) (inl refl))) refl
 

@@ -1,10 +1,9 @@
 -- The invariant of a group: it holds at the start, each step keeps it, and it gives the facts.
-use Rattle.std.proofs.Common.{ℕ, ◌+◌, ◌*◌, ◌<◌, ◌≤◌, ◌≡◌, ◌⊎◌, inl, inr, true, false, Bool, refl, sym, ap, ◌∙◌, subst, List, [], ◌∷◌, Option, Some, None, ◌==◌, max, ◌++◌, arith}
+use Rattle.std.proofs.Common.{ℕ, ◌+◌, ◌*◌, ◌<◌, ◌≡◌, inl, inr, true, false, Bool, refl, sym, ap, ◌∙◌, subst, List, [], ◌∷◌, Option, None, ◌==◌, max, arith}
 use Rattle.std.specs.List.{Contains}
 use Rattle.std.proofs.lemmas.Bool.{cases_eq, eq-eqb, ne_eqb, cond-true, cond-false}
 use Rattle.pws_msg.specs.declared.changes.Named.{Named}
 use Rattle.pws_msg.specs.declared.changes.ViewChange.{ViewChange}
-use Rattle.pws_msg.specs.declared.changes.Choice.{Choice}
 use Rattle.pws_msg.specs.declared.changes.NewView.{NewView}
 use Rattle.pws_change.specs.declared.heard.Heard.{Heard}
 use Rattle.pws_change.specs.Agreements.{Agrees, name_of}
@@ -12,12 +11,11 @@ use Rattle.pws_safety.specs.Replicas.{AtLeast}
 use Rattle.pws_safety.specs.Statement.{Statement, PrePrepare, Prepare, Commit, Ack, view_of}
 use Rattle.pws_safety.specs.Statement as say
 use Rattle.pws_safety.specs.Statements.{Group, Sent, Told, Gives, StandsBy, StandsFor, Backs, IsCorrect, size, primary}
-use Rattle.pws_safety.specs.Voters.{Slot, Core, new_core, accepted, after_enter, AcceptsChosen, PreparesChosen, IsHeard, IsHad, report_of, Step, propose, accept, prepare, commit, lower, move, ack, offer, enter}
-use Rattle.pws_safety.specs.Kept.{Stood, TellsTrue, IsBehind, HasGrounds, HasReason, Keeps, GroupKeeps}
-use Rattle.pws_safety.specs.Facts.{Facts}
-use Rattle.pws_safety.specs.Runs.{Reached, start, step, again, Sends, IsTrusted, with_core}
+use Rattle.pws_safety.specs.Voters.{Slot, Core, new_core, AcceptsChosen, PreparesChosen, IsHeard, report_of, Step, propose, accept, prepare, commit, lower, move, ack, offer, enter}
+use Rattle.pws_safety.specs.Kept.{Stood, TellsTrue, HasGrounds, HasReason, Keeps, GroupKeeps}
+use Rattle.pws_safety.specs.Runs.{Reached, start, step, again, IsTrusted, with_core}
 use Rattle.pws_safety.specs.Agreement.{RepeatsKeep, MoreIsKept, HadIsBehind, CommittedIsSettled, StepsKeep, KeptGivesFacts, RunsKeep}
-use Rattle.pws_safety.proofs.Members.{nowhere, here, there, first_or_rest}
+use Rattle.pws_safety.proofs.Members.{nowhere, here, first_or_rest}
 use Rattle.pws_safety.proofs.Counted.{at_least_weaker}
 use Rattle.pws_safety.proofs.Slots.{none_some, prepare_pledge, propose_pledge}
 use Rattle.pws_safety.proofs.Next.{linked_step}

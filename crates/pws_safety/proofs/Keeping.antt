@@ -1,5 +1,5 @@
 -- Each step of a correct voter keeps its invariant.
-use Rattle.std.proofs.Common.{ℕ, ◌+◌, ◌*◌, ◌%◌, ◌<◌, ◌≤◌, ◌≡◌, ◌⊎◌, inl, inr, true, false, refl, sym, ap, ◌∙◌, subst, List, [], ◌∷◌, Option, Some, None, max, ◌++◌, arith}
+use Rattle.std.proofs.Common.{ℕ, ◌*◌, ◌<◌, ◌≤◌, ◌≡◌, ◌⊎◌, inl, inr, true, false, refl, sym, ap, ◌∙◌, subst, List, [], ◌∷◌, Option, Some, max, ◌++◌, arith}
 use Rattle.std.specs.List.{Contains}
 use Rattle.std.proofs.lemmas.Bool.{false≢true, true≢false, cases_order, cases_eq}
 use Rattle.std.proofs.lemmas.List.Elements.{Contains-append_left, Contains-append_right, Contains-append_cases}
@@ -11,12 +11,11 @@ use Rattle.pws_msg.specs.declared.changes.QRow.{QRow}
 use Rattle.pws_msg.specs.declared.changes.Seen.{Seen}
 use Rattle.pws_msg.specs.declared.changes.ViewChange.{ViewChange}
 use Rattle.pws_msg.specs.declared.changes.NewView.{NewView}
-use Rattle.pws_change.specs.Choices.{last_of}
 use Rattle.pws_safety.specs.Replicas.{AtLeast}
 use Rattle.pws_safety.specs.Statement.{Statement, PrePrepare, Prepare, Commit, Ack, view_of}
 use Rattle.pws_safety.specs.Statement as say
 use Rattle.pws_safety.specs.Statements.{Group, Sent, Told, Gives, StandsBy, Backs, size, primary}
-use Rattle.pws_safety.specs.Voters.{Slot, Core, accepted, with_slot, above, after_accept, after_prepare, after_commit, after_lower, report_of, after_move, after_enter, IsTrimmed, IsNoted, IsHeard}
+use Rattle.pws_safety.specs.Voters.{Slot, Core, accepted, with_slot, after_accept, after_prepare, after_commit, after_lower, report_of, after_move, after_enter, IsTrimmed, IsNoted, IsHeard}
 use Rattle.pws_safety.specs.Kept.{Stood, TellsTrue, HasGrounds, HasReason, IsChosenIn, IsFreshIn, Keeps}
 use Rattle.pws_safety.proofs.Members.{here, there, first_or_rest}
 use Rattle.pws_safety.proofs.Slots.{some_same, none_some, slot_here, slot_other, each_slot, above_is, above_kept, with_one, stood_split, stood_more, stands_view, Pledge, commit_old, change_old, ack_old, new_old, tells_more}

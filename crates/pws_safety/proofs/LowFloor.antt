@@ -1,5 +1,5 @@
 -- Replicas whose floor is the checkpoint alone accept another digest where one was chosen that they didn't accept.
-use Rattle.std.proofs.Common.{ℕ, ◌+◌, ◌<◌, ◌≤◌, ◌≡◌, ◌⊎◌, inl, inr, Bool, refl, List, [], ◌∷◌, arith}
+use Rattle.std.proofs.Common.{ℕ, ◌≡◌, inl, inr, Bool, refl, List, [], ◌∷◌, arith}
 use Rattle.std.specs.List.{Contains}
 use Rattle.pws_msg.specs.declared.changes.NewView.{NewView}
 use Rattle.pws_msg.specs.declared.changes.ViewChange.{ViewChange}
@@ -77,15 +77,15 @@ new_run =
     let c1 : ℕ → Core = with_core base_cores 1 moved in
     let t1 : Sent = (1, report) ∷ base_sent in
     let r1 : ReachedWith CheckpointFloor g c1 t1 = steps CheckpointFloor g base_cores base_sent 1 moved (report ∷ []) (without_rule CheckpointFloor g (committed_run same_digest occurs)) (omega arith, refl)
-        (move backup 3 (first_checkpoint ∷ []) (prepared_row ∷ []) (pre_prepared_row ∷ []) (omega arith) (noted backup refl refl prepared_slot_is refl)) refl in
+    (move backup 3 (first_checkpoint ∷ []) (prepared_row ∷ []) (pre_prepared_row ∷ []) (omega arith) (noted backup refl refl prepared_slot_is refl)) refl in
     let c2 : ℕ → Core = with_core c1 2 moved in
     let t2 : Sent = (2, report) ∷ t1 in
     let r2 : ReachedWith CheckpointFloor g c2 t2 = steps CheckpointFloor g c1 t1 2 moved (report ∷ []) r1 (omega arith, refl)
-        (move backup 3 (first_checkpoint ∷ []) (prepared_row ∷ []) (pre_prepared_row ∷ []) (omega arith) (noted backup refl refl prepared_slot_is refl)) refl in
+    (move backup 3 (first_checkpoint ∷ []) (prepared_row ∷ []) (pre_prepared_row ∷ []) (omega arith) (noted backup refl refl prepared_slot_is refl)) refl in
     let had = heard_in t2 (1, omega arith, refl) (0, omega arith, refl) in
     let c3 : ℕ → Core = with_core c2 1 entered in
     let r3 : ReachedWith CheckpointFloor g c3 t2 = follows CheckpointFloor g c2 t2 1 entered [] r2 (omega arith, refl)
-        (rule.CheckpointFloor.enter moved new heard no_slots 0 [] refl (λ e. absurd (omega (arith, e))) refl (inl refl) agrees (λ h k. heard_is_had g t2 3 h (had h k)) (accepts_none moved new) (prepares_none moved new)) refl in
+    (rule.CheckpointFloor.enter moved new heard no_slots 0 [] refl (λ e. absurd (omega (arith, e))) refl (inl refl) agrees (λ h k. heard_is_had g t2 3 h (had h k)) (accepts_none moved new) (prepares_none moved new)) refl in
     follows CheckpointFloor g c3 t2 2 entered [] r3 (omega arith, refl)
     (rule.CheckpointFloor.enter moved new heard no_slots 0 [] refl (λ e. absurd (omega (arith, e))) refl (inl refl) agrees (λ h k. heard_is_had g t2 3 h (had h k)) (accepts_none moved new) (prepares_none moved new)) refl
 
@@ -113,19 +113,19 @@ last_run =
     let c1 : ℕ → Core = with_core new_cores 1 voted in
     let t1 : Sent = (1, vote) ∷ new_sent in
     let r1 : ReachedWith CheckpointFloor g c1 t1 = steps CheckpointFloor g new_cores new_sent 1 voted (vote ∷ []) new_run (omega arith, refl)
-        (accept entered 1 other_digest refl (λ e. absurd (omega (arith, e))) (omega arith) (omega arith) refl refl (inl refl)) refl in
+    (accept entered 1 other_digest refl (λ e. absurd (omega (arith, e))) (omega arith) (omega arith) refl refl (inl refl)) refl in
     let c2 : ℕ → Core = with_core c1 2 voted in
     let t2 : Sent = (2, vote) ∷ t1 in
     let r2 : ReachedWith CheckpointFloor g c2 t2 = steps CheckpointFloor g c1 t1 2 voted (vote ∷ []) r1 (omega arith, refl)
-        (accept entered 1 other_digest refl (λ e. absurd (omega (arith, e))) (omega arith) (omega arith) refl refl (inl refl)) refl in
+    (accept entered 1 other_digest refl (λ e. absurd (omega (arith, e))) (omega arith) (omega arith) refl refl (inl refl)) refl in
     let c3 : ℕ → Core = with_core c2 1 agreed in
     let t3 : Sent = (1, agree) ∷ t2 in
     let r3 : ReachedWith CheckpointFloor g c3 t3 = steps CheckpointFloor g c2 t2 1 agreed (agree ∷ []) r2 (omega arith, refl)
-        (prepare voted 1 other_digest refl refl (two_have 1 2 (λ k. (k ≡ primary g 3 → ⊥) × Told g t2 k vote) (omega arith) (λ e. absurd (omega (arith, e)), inr (1, omega arith, refl)) (λ e. absurd (omega (arith, e)), inr (0, omega arith, refl)))) refl in
+    (prepare voted 1 other_digest refl refl (two_have 1 2 (λ k. (k ≡ primary g 3 → ⊥) × Told g t2 k vote) (omega arith) (λ e. absurd (omega (arith, e)), inr (1, omega arith, refl)) (λ e. absurd (omega (arith, e)), inr (0, omega arith, refl)))) refl in
     let c4 : ℕ → Core = with_core c3 2 agreed in
     let t4 : Sent = (2, agree) ∷ t3 in
     let r4 : ReachedWith CheckpointFloor g c4 t4 = steps CheckpointFloor g c3 t3 2 agreed (agree ∷ []) r3 (omega arith, refl)
-        (prepare voted 1 other_digest refl refl (two_have 1 2 (λ k. (k ≡ primary g 3 → ⊥) × Told g t3 k vote) (omega arith) (λ e. absurd (omega (arith, e)), inr (2, omega arith, refl)) (λ e. absurd (omega (arith, e)), inr (1, omega arith, refl)))) refl in
+    (prepare voted 1 other_digest refl refl (two_have 1 2 (λ k. (k ≡ primary g 3 → ⊥) × Told g t3 k vote) (omega arith) (λ e. absurd (omega (arith, e)), inr (2, omega arith, refl)) (λ e. absurd (omega (arith, e)), inr (1, omega arith, refl)))) refl in
     steps CheckpointFloor g c4 t4 1 (after_commit agreed 1 other_digest) [] r4 (omega arith, refl)
     (commit agreed 1 other_digest refl refl (three_have 1 2 3 (λ k. Told g t4 k agree) (omega arith) (inr (1, omega arith, refl)) (inr (0, omega arith, refl)) (inl refl))) refl
 

@@ -1,7 +1,7 @@
 -- What three view changes that were heard choose, and what a replica is that moves with them.
-use Rattle.std.proofs.Common.{ℕ, ◌+◌, ◌<◌, ◌≤◌, ◌≡◌, ◌⊎◌, inl, inr, Bool, true, false, ◌&&◌, refl, sym, ap, ◌∙◌, subst, List, [], ◌∷◌, ◌==◌, Option, Some, None, arith}
+use Rattle.std.proofs.Common.{ℕ, ◌≤◌, ◌≡◌, inl, inr, true, false, ◌&&◌, refl, sym, ap, ◌∙◌, subst, List, [], ◌∷◌, ◌==◌, Option, Some, None, arith}
 use Rattle.std.specs.Prelude.{IsTrue, nat_lt}
-use Rattle.std.specs.List.{Contains, count_by}
+use Rattle.std.specs.List.{Contains}
 use Rattle.std.specs.Str.{bytes_eq}
 use Rattle.std.proofs.lemmas.Bool.{and_parts, eqb-true, cases_eq, lt-ltb, le-leb}
 use Rattle.std.proofs.lemmas.Slice.Eq.{bytes_eq-Decides}
@@ -11,7 +11,6 @@ use Rattle.pws_msg.specs.declared.changes.QRow.{QRow}
 use Rattle.pws_msg.specs.declared.changes.Seen.{Seen}
 use Rattle.pws_msg.specs.declared.changes.Choice.{Choice}
 use Rattle.pws_msg.specs.declared.changes.NewView.{NewView}
-use Rattle.pws_msg.specs.declared.changes.ViewChange.{ViewChange}
 use Rattle.pws_change.specs.declared.heard.Heard.{Heard}
 use Rattle.pws_change.specs.Changes.{has_checkpoint, has_entry}
 use Rattle.pws_change.specs.Choices.{MayStart, IsStart, MeetsA, GivesChoice, IsChosenAt, chosen_at}
@@ -111,11 +110,14 @@ module _ (view : ℕ) (name : List ℕ) where
   }
     where
       one : IsChosenAt 1 (reported i ∷ reported j ∷ reported k ∷ []) 1 example_digest
-      one = inl (0, record {
-        meets = record { named = omega arith; allowed = omega arith; witnessed = omega arith };
-        highest = λ d v m. let e = (entry_is i j k d v m).1 in omega arith;
-        least = λ d m. subst (λ y. IsTrue (is_digest_at_most example_digest y)) (sym (entry_is i j k d 0 m).0) refl;
-      })
+      one = inl (
+        0,
+        record {
+          meets = record { named = omega arith; allowed = omega arith; witnessed = omega arith };
+          highest = λ d v m. let e = (entry_is i j k d v m).1 in omega arith;
+          least = λ d m. subst (λ y. IsTrue (is_digest_at_most example_digest y)) (sym (entry_is i j k d 0 m).0) refl;
+        },
+      )
 
   pub report_valid : 1 ≤ view → IsValid (example_report view)
   report_valid l = record { view = le-leb 1 view l; low = refl; checkpoints = refl; prepared = rows (lt-ltb 0 view l); pre_prepared = pairs (lt-ltb 0 view l) }

@@ -1,14 +1,12 @@
 -- Runs with one more rule, step by step, and the short ones.
-use Rattle.std.proofs.Common.{ℕ, ◌+◌, ◌<◌, ◌≤◌, ◌≡◌, ◌⊎◌, inl, inr, Bool, true, false, ◌||◌, refl, sym, ap, ◌∙◌, subst, List, [], ◌∷◌, ◌++◌, ◌==◌, Option, Some, None, replicate, arith}
+use Rattle.std.proofs.Common.{ℕ, ◌≤◌, ◌≡◌, inl, inr, true, false, refl, sym, ap, subst, List, [], ◌∷◌, ◌++◌, ◌==◌, replicate, arith}
 use Rattle.std.specs.Prelude.{slice_index_or}
-use Rattle.std.specs.List.{Contains}
-use Rattle.std.proofs.lemmas.Bool.{false≢true, or_cases, eqb-true}
+use Rattle.std.proofs.lemmas.Bool.{false≢true, eqb-true}
 use Rattle.pws_base.specs.Counts.{count_below}
-use Rattle.pws_msg.specs.declared.changes.ViewChange.{ViewChange}
 use Rattle.pws_safety.specs.Replicas.{AtLeast}
-use Rattle.pws_safety.specs.Statement.{Statement, PrePrepare, Prepare, Commit}
-use Rattle.pws_safety.specs.Statements.{Group, Sent, Told, IsCorrect, size, primary}
-use Rattle.pws_safety.specs.Voters.{Slot, Core, new_core, accepted, after_accept, after_prepare, after_commit, Step, accept, prepare, commit}
+use Rattle.pws_safety.specs.Statement.{Statement, Prepare, Commit}
+use Rattle.pws_safety.specs.Statements.{Group, Sent, Told, IsCorrect, primary}
+use Rattle.pws_safety.specs.Voters.{Core, new_core, after_accept, after_prepare, after_commit, Step, accept}
 use Rattle.pws_safety.specs.Runs.{Reached, Sends, IsTrusted, with_core}
 use Rattle.pws_safety.specs.Runs as run
 use Rattle.pws_safety.specs.Witnesses.{example_digest}
@@ -79,7 +77,7 @@ module _ where
       let c1 : ℕ → Core = with_core (λ i. new_core) 1 (took example_digest) in
       let t1 : Sent = (1, Prepare 0 1 example_digest) ∷ [] in
       let r1 : ReachedWith QuorumOfTwoF led_astray c1 t1 = steps QuorumOfTwoF led_astray (λ i. new_core) [] 1 (took example_digest) (Prepare 0 1 example_digest ∷ []) start (omega arith, refl)
-          (accept new_core 1 example_digest refl (λ e. absurd (omega (arith, e))) (omega arith) (omega arith) refl refl (inl refl)) refl in
+      (accept new_core 1 example_digest refl (λ e. absurd (omega (arith, e))) (omega arith) (omega arith) refl refl (inl refl)) refl in
       steps QuorumOfTwoF led_astray c1 t1 2 (took other_digest) (Prepare 0 1 other_digest ∷ []) r1 (omega arith, refl)
       (accept new_core 1 other_digest refl (λ e. absurd (omega (arith, e))) (omega arith) (omega arith) refl refl (inl refl)) refl
 
@@ -95,14 +93,14 @@ module _ where
       let c1 : ℕ → Core = with_core two_cores 1 (agreed example_digest) in
       let t1 : Sent = (1, Commit 0 1 example_digest) ∷ two_sent in
       let r1 : ReachedWith QuorumOfTwoF g c1 t1 = follows QuorumOfTwoF g two_cores two_sent 1 (agreed example_digest) (Commit 0 1 example_digest ∷ []) two_taken (omega arith, refl)
-          (rule.QuorumOfTwoF.prepare (took example_digest) 1 example_digest refl refl (one_has 1 (λ k. (k ≡ primary g 0 → ⊥) × Told g two_sent k (Prepare 0 1 example_digest)) (omega arith) (λ e. absurd (omega (arith, e)), inr (1, omega arith, refl)))) refl in
+      (rule.QuorumOfTwoF.prepare (took example_digest) 1 example_digest refl refl (one_has 1 (λ k. (k ≡ primary g 0 → ⊥) × Told g two_sent k (Prepare 0 1 example_digest)) (omega arith) (λ e. absurd (omega (arith, e)), inr (1, omega arith, refl)))) refl in
       let c2 : ℕ → Core = with_core c1 2 (agreed other_digest) in
       let t2 : Sent = (2, Commit 0 1 other_digest) ∷ t1 in
       let r2 : ReachedWith QuorumOfTwoF g c2 t2 = follows QuorumOfTwoF g c1 t1 2 (agreed other_digest) (Commit 0 1 other_digest ∷ []) r1 (omega arith, refl)
-          (rule.QuorumOfTwoF.prepare (took other_digest) 1 other_digest refl refl (one_has 2 (λ k. (k ≡ primary g 0 → ⊥) × Told g t1 k (Prepare 0 1 other_digest)) (omega arith) (λ e. absurd (omega (arith, e)), inr (1, omega arith, refl)))) refl in
+      (rule.QuorumOfTwoF.prepare (took other_digest) 1 other_digest refl refl (one_has 2 (λ k. (k ≡ primary g 0 → ⊥) × Told g t1 k (Prepare 0 1 other_digest)) (omega arith) (λ e. absurd (omega (arith, e)), inr (1, omega arith, refl)))) refl in
       let c3 : ℕ → Core = with_core c2 1 (done example_digest) in
       let r3 : ReachedWith QuorumOfTwoF g c3 t2 = follows QuorumOfTwoF g c2 t2 1 (done example_digest) [] r2 (omega arith, refl)
-          (rule.QuorumOfTwoF.commit (agreed example_digest) 1 example_digest refl refl (two_have 0 1 (λ k. Told g t2 k (Commit 0 1 example_digest)) (omega arith) (inl refl) (inr (1, omega arith, refl)))) refl in
+      (rule.QuorumOfTwoF.commit (agreed example_digest) 1 example_digest refl refl (two_have 0 1 (λ k. Told g t2 k (Commit 0 1 example_digest)) (omega arith) (inl refl) (inr (1, omega arith, refl)))) refl in
       follows QuorumOfTwoF g c3 t2 2 (done other_digest) [] r3 (omega arith, refl)
       (rule.QuorumOfTwoF.commit (agreed other_digest) 1 other_digest refl refl (two_have 0 2 (λ k. Told g t2 k (Commit 0 1 other_digest)) (omega arith) (inl refl) (inr (0, omega arith, refl)))) refl
 

@@ -1,32 +1,16 @@
 -- The example group goes on to view 1, by a NEW_VIEW that keeps what was settled in view 0.
-use Rattle.std.proofs.Common.{ℕ, ◌+◌, ◌<◌, ◌≤◌, ◌≡◌, ◌⊎◌, inl, inr, Bool, true, false, ◌&&◌, ◌||◌, refl, sym, ap, ◌∙◌, subst, List, [], ◌∷◌, ◌++◌, ◌==◌, Option, Some, None, arith}
-use Rattle.std.specs.Prelude.{IsTrue}
-use Rattle.std.specs.List.{Contains, count_by}
-use Rattle.std.specs.Str.{bytes_eq}
-use Rattle.std.proofs.lemmas.Bool.{and_parts, eqb-true, cases_eq}
-use Rattle.std.proofs.lemmas.Slice.Eq.{bytes_eq-Decides}
-use Rattle.pws_msg.specs.declared.changes.Checkpoint.{Checkpoint}
-use Rattle.pws_msg.specs.declared.changes.PRow.{PRow}
-use Rattle.pws_msg.specs.declared.changes.QRow.{QRow}
-use Rattle.pws_msg.specs.declared.changes.Seen.{Seen}
-use Rattle.pws_msg.specs.declared.changes.Choice.{Choice}
+use Rattle.std.proofs.Common.{ℕ, ◌≡◌, inr, Bool, false, refl, List, [], ◌∷◌, arith}
+use Rattle.std.specs.List.{Contains}
 use Rattle.pws_msg.specs.declared.changes.NewView.{NewView}
 use Rattle.pws_msg.specs.declared.changes.ViewChange.{ViewChange}
 use Rattle.pws_change.specs.declared.heard.Heard.{Heard}
 use Rattle.pws_change.specs.Agreements.{Agrees}
-use Rattle.pws_change.specs.Changes.{has_checkpoint, has_entry}
-use Rattle.pws_change.specs.Choices.{MayStart, MeetsA, GivesChoice, IsChosenAt, chosen_at}
-use Rattle.pws_change.specs.Rising.{is_digest_at_most}
-use Rattle.pws_change.specs.Valid.{IsValid}
-use Rattle.pws_safety.specs.Replicas.{AtLeast}
 use Rattle.pws_safety.specs.Statement.{Statement, Prepare, Commit}
 use Rattle.pws_safety.specs.Statement as say
-use Rattle.pws_safety.specs.Statements.{Group, Sent, Told, Gives, IsSettled, IsCorrect, size, primary}
-use Rattle.pws_safety.specs.Voters.{Slot, Core, accepted, with_slot, after_move, after_enter, after_prepare, IsNoted, AcceptsChosen, PreparesChosen, IsHeard, IsHad, Step, move, offer, enter, prepare}
+use Rattle.pws_safety.specs.Statements.{Group, Sent, Told, Gives, primary}
+use Rattle.pws_safety.specs.Voters.{Core, after_move, after_enter, after_prepare, IsHeard, IsHad, move, offer, enter, prepare}
 use Rattle.pws_safety.specs.Runs.{Reached, with_core}
-use Rattle.pws_safety.specs.Witnesses.{example_digest, first_checkpoint, prepared_row, seen_digest, pre_prepared_row, example_report, same_change, example_new_view, KeepsInViewOne}
-use Rattle.pws_safety.proofs.Members.{nowhere, here, first_or_rest, any_has, count_some}
-use Rattle.pws_safety.proofs.Slots.{some_same, none_some, slot_here, slot_other}
+use Rattle.pws_safety.specs.Witnesses.{example_digest, first_checkpoint, prepared_row, pre_prepared_row, example_report, same_change, example_new_view, KeepsInViewOne}
 use Rattle.pws_safety.proofs.Next.{next}
 use Rattle.pws_safety.proofs.Reports.{each_three, reported, keeps, report_valid, noted, prepared_slot_is, one_slot, accepts_one, prepares_one, heard_is_had}
 use Rattle.pws_safety.proofs.FirstRun.{two_have, group, leader_prepared, backup_prepared, prepared_cores, prepared_sent, prepared_run}
@@ -66,11 +50,11 @@ module _ (digest_of : ViewChange → List ℕ) where
       let c1 : ℕ → Core = with_core (prepared_cores digest_of occurs) 0 (moved (leader_prepared digest_of occurs)) in
       let t1 : Sent = (0, report) ∷ prepared_sent digest_of occurs in
       let r1 : Reached g c1 t1 = next g (prepared_cores digest_of occurs) (prepared_sent digest_of occurs) 0 (moved (leader_prepared digest_of occurs)) (report ∷ []) (prepared_run digest_of occurs) (omega arith, refl)
-          (move (leader_prepared digest_of occurs) 1 (first_checkpoint ∷ []) (prepared_row ∷ []) (pre_prepared_row ∷ []) (omega arith) (noted (leader_prepared digest_of occurs) refl refl prepared_slot_is refl)) refl in
+      (move (leader_prepared digest_of occurs) 1 (first_checkpoint ∷ []) (prepared_row ∷ []) (pre_prepared_row ∷ []) (omega arith) (noted (leader_prepared digest_of occurs) refl refl prepared_slot_is refl)) refl in
       let c2 : ℕ → Core = with_core c1 1 (moved (backup_prepared digest_of occurs)) in
       let t2 : Sent = (1, report) ∷ t1 in
       let r2 : Reached g c2 t2 = next g c1 t1 1 (moved (backup_prepared digest_of occurs)) (report ∷ []) r1 (omega arith, refl)
-          (move (backup_prepared digest_of occurs) 1 (first_checkpoint ∷ []) (prepared_row ∷ []) (pre_prepared_row ∷ []) (omega arith) (noted (backup_prepared digest_of occurs) refl refl prepared_slot_is refl)) refl in
+      (move (backup_prepared digest_of occurs) 1 (first_checkpoint ∷ []) (prepared_row ∷ []) (pre_prepared_row ∷ []) (omega arith) (noted (backup_prepared digest_of occurs) refl refl prepared_slot_is refl)) refl in
       next g c2 t2 2 (moved (backup_prepared digest_of occurs)) (report ∷ []) r2 (omega arith, refl)
       (move (backup_prepared digest_of occurs) 1 (first_checkpoint ∷ []) (prepared_row ∷ []) (pre_prepared_row ∷ []) (omega arith) (noted (backup_prepared digest_of occurs) refl refl prepared_slot_is refl)) refl
 
@@ -122,7 +106,7 @@ module _ (digest_of : ViewChange → List ℕ) where
       let c1 : ℕ → Core = with_core started_cores 0 (entered (moved (leader_prepared digest_of occurs))) in
       let t1 : Sent = (0, vote_again) ∷ started_sent in
       let r1 : Reached g c1 t1 = next g started_cores started_sent 0 (entered (moved (leader_prepared digest_of occurs))) (vote_again ∷ []) started_run (omega arith, refl)
-          (enter (moved (leader_prepared digest_of occurs)) new heard (one_slot example_digest) 1 (vote_again ∷ []) refl (λ e. absurd (omega (arith, e))) refl (inr (0, omega arith, refl)) agrees (had_in started_sent (3, omega arith, refl) (2, omega arith, refl) (1, omega arith, refl)) (accepts_one (moved (leader_prepared digest_of occurs)) new example_digest chosen_one refl) (prepares_one (moved (leader_prepared digest_of occurs)) new example_digest chosen_one 1 refl)) refl in
+      (enter (moved (leader_prepared digest_of occurs)) new heard (one_slot example_digest) 1 (vote_again ∷ []) refl (λ e. absurd (omega (arith, e))) refl (inr (0, omega arith, refl)) agrees (had_in started_sent (3, omega arith, refl) (2, omega arith, refl) (1, omega arith, refl)) (accepts_one (moved (leader_prepared digest_of occurs)) new example_digest chosen_one refl) (prepares_one (moved (leader_prepared digest_of occurs)) new example_digest chosen_one 1 refl)) refl in
       next g c1 t1 2 (entered (moved (backup_prepared digest_of occurs))) (vote_again ∷ []) r1 (omega arith, refl)
       (enter (moved (backup_prepared digest_of occurs)) new heard (one_slot example_digest) 1 (vote_again ∷ []) refl (λ e. absurd (omega (arith, e))) refl (inr (1, omega arith, refl)) agrees (had_in t1 (4, omega arith, refl) (3, omega arith, refl) (2, omega arith, refl)) (accepts_one (moved (backup_prepared digest_of occurs)) new example_digest chosen_one refl) (prepares_one (moved (backup_prepared digest_of occurs)) new example_digest chosen_one 1 refl)) refl
 
@@ -142,19 +126,19 @@ module _ (digest_of : ViewChange → List ℕ) where
       let c1 : ℕ → Core = with_core entered_cores 0 (after_prepare (entered (moved (leader_prepared digest_of occurs))) 1 example_digest) in
       let t1 : Sent = (0, agree_again) ∷ entered_sent in
       let r1 : Reached g c1 t1 = next g entered_cores entered_sent 0 (after_prepare (entered (moved (leader_prepared digest_of occurs))) 1 example_digest) (agree_again ∷ []) entered_run (omega arith, refl)
-          (prepare (entered (moved (leader_prepared digest_of occurs))) 1 example_digest refl refl (two_have 0 2 (λ k. (k ≡ primary g 1 → ⊥) × Told g entered_sent k vote_again) (omega arith) (λ e. absurd (omega (arith, e)), inr (1, omega arith, refl)) (λ e. absurd (omega (arith, e)), inr (0, omega arith, refl)))) refl in
+      (prepare (entered (moved (leader_prepared digest_of occurs))) 1 example_digest refl refl (two_have 0 2 (λ k. (k ≡ primary g 1 → ⊥) × Told g entered_sent k vote_again) (omega arith) (λ e. absurd (omega (arith, e)), inr (1, omega arith, refl)) (λ e. absurd (omega (arith, e)), inr (0, omega arith, refl)))) refl in
       next g c1 t1 2 (after_prepare (entered (moved (backup_prepared digest_of occurs))) 1 example_digest) (agree_again ∷ []) r1 (omega arith, refl)
       (prepare (entered (moved (backup_prepared digest_of occurs))) 1 example_digest refl refl (two_have 0 2 (λ k. (k ≡ primary g 1 → ⊥) × Told g t1 k vote_again) (omega arith) (λ e. absurd (omega (arith, e)), inr (2, omega arith, refl)) (λ e. absurd (omega (arith, e)), inr (1, omega arith, refl)))) refl
 
 pub keeps_in_view_one : KeepsInViewOne
 keeps_in_view_one digest_of =
     let occurs : ViewChange → Bool = same_change (example_report 1) in (
-  last_cores digest_of,
-  last_sent digest_of,
-  last_run digest_of,
-  two_have 1 2 (λ i. ((group digest_of occurs).compromised i ≡ false) × Contains (last_sent digest_of) (i, Commit 0 1 example_digest)) (omega arith) (refl, (9, omega arith, refl)) (refl, (8, omega arith, refl)),
-  (4, omega arith, refl),
-  refl,
-  refl,
-  two_have 0 2 (λ i. ((group digest_of occurs).compromised i ≡ false) × Contains (last_sent digest_of) (i, Commit 1 1 example_digest)) (omega arith) (refl, (1, omega arith, refl)) (refl, (0, omega arith, refl)),
-)
+      last_cores digest_of,
+      last_sent digest_of,
+      last_run digest_of,
+      two_have 1 2 (λ i. ((group digest_of occurs).compromised i ≡ false) × Contains (last_sent digest_of) (i, Commit 0 1 example_digest)) (omega arith) (refl, (9, omega arith, refl)) (refl, (8, omega arith, refl)),
+      (4, omega arith, refl),
+      refl,
+      refl,
+      two_have 0 2 (λ i. ((group digest_of occurs).compromised i ≡ false) × Contains (last_sent digest_of) (i, Commit 1 1 example_digest)) (omega arith) (refl, (1, omega arith, refl)) (refl, (0, omega arith, refl)),
+    )

@@ -1,6 +1,6 @@
 -- A list of view changes whose senders rise counts distinct senders.
-use Rattle.std.proofs.Common.{ℕ, zero, suc, ◌+◌, ◌<◌, ◌≤◌, ◌≡◌, inl, inr, Bool, true, false, ◌&&◌, ◌||◌, cond, refl, subst, List, [], ◌∷◌, ◌==◌, arith}
-use Rattle.std.specs.List.{list_any, list_all, Contains, count_by}
+use Rattle.std.proofs.Common.{ℕ, suc, ◌<◌, ◌≤◌, ◌≡◌, inl, inr, Bool, true, false, ◌&&◌, ◌||◌, cond, refl, List, [], ◌∷◌, ◌==◌, arith}
+use Rattle.std.specs.List.{list_all, Contains, count_by}
 use Rattle.std.specs.Prelude.{nat_lt}
 use Rattle.std.proofs.lemmas.Bool.{and_parts, or_cases, and_from, or_left, or_right, eqb-true, false_from_ne_true, ltb-true}
 use Rattle.pws_base.specs.Counts.{count_below}

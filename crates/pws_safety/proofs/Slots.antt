@@ -1,5 +1,5 @@
 -- Slots by place, and what one statement more says.
-use Rattle.std.proofs.Common.{ℕ, ◌+◌, ◌*◌, ◌%◌, ◌<◌, ◌≤◌, ◌≡◌, ◌⊎◌, inl, inr, Bool, true, false, ◌||◌, refl, sym, ap, ◌∙◌, subst, List, ◌∷◌, Option, Some, None, ◌==◌, nat_lt, ◌++◌, arith}
+use Rattle.std.proofs.Common.{ℕ, ◌+◌, ◌<◌, ◌≤◌, ◌≡◌, ◌⊎◌, inl, inr, false, ◌||◌, refl, sym, ◌∙◌, subst, List, ◌∷◌, Option, Some, None, ◌==◌, nat_lt, arith}
 use Rattle.std.specs.List.{Contains}
 use Rattle.std.proofs.lemmas.Bool.{false_from_ne_true, or_cases, eqb-true, ltb-true, lt-ltb, cases_Bool, cases_eq, eq-eqb, ne_eqb, cond-true, cond-false}
 use Rattle.pws_msg.specs.declared.changes.ViewChange.{ViewChange}
@@ -10,7 +10,7 @@ use Rattle.pws_safety.specs.Statement as say
 use Rattle.pws_safety.specs.Statements.{Group, StandsBy, primary}
 use Rattle.pws_safety.specs.Voters.{Slot, with_slot, above}
 use Rattle.pws_safety.specs.Kept.{Stood, TellsTrue}
-use Rattle.pws_safety.proofs.Members.{here, there, first_or_rest}
+use Rattle.pws_safety.proofs.Members.{there, first_or_rest}
 use Rattle.pws_safety.proofs.Counted.{count_insert}
 
 pub some_same : (a b : Slot) → ◌≡◌ {A = Option Slot} (Some a) (Some b) → a ≡ b

@@ -1,6 +1,6 @@
 -- A compromised replica claims to have prepared another digest in a later view; where no witness is asked for, the
 -- choice takes it.
-use Rattle.std.proofs.Common.{ℕ, ◌+◌, ◌<◌, ◌≤◌, ◌≡◌, ◌⊎◌, inl, inr, Bool, true, ◌||◌, refl, sym, ap, ◌∙◌, subst, List, [], ◌∷◌, arith}
+use Rattle.std.proofs.Common.{ℕ, ◌≤◌, ◌≡◌, ◌⊎◌, inl, inr, Bool, true, ◌||◌, refl, sym, ap, ◌∙◌, subst, List, [], ◌∷◌, arith}
 use Rattle.std.specs.List.{Contains, count_by}
 use Rattle.std.proofs.lemmas.Bool.{or_cases}
 use Rattle.pws_base.specs.Shapes.{quorum_of}
@@ -127,15 +127,15 @@ new_run =
     let c1 : ℕ → Core = with_core base_cores 1 moved in
     let t1 : Sent = (1, report) ∷ base_sent in
     let r1 : ReachedWith ChoiceWithoutWitnesses g c1 t1 = steps ChoiceWithoutWitnesses g base_cores base_sent 1 moved (report ∷ []) (without_rule ChoiceWithoutWitnesses g (committed_run digest_of occurs)) (omega arith, refl)
-        (move backup 2 (first_checkpoint ∷ []) (prepared_row ∷ []) (pre_prepared_row ∷ []) (omega arith) (noted backup refl refl prepared_slot_is refl)) refl in
+    (move backup 2 (first_checkpoint ∷ []) (prepared_row ∷ []) (pre_prepared_row ∷ []) (omega arith) (noted backup refl refl prepared_slot_is refl)) refl in
     let c2 : ℕ → Core = with_core c1 2 moved in
     let t2 : Sent = (2, report) ∷ t1 in
     let r2 : ReachedWith ChoiceWithoutWitnesses g c2 t2 = steps ChoiceWithoutWitnesses g c1 t1 2 moved (report ∷ []) r1 (omega arith, refl)
-        (move backup 2 (first_checkpoint ∷ []) (prepared_row ∷ []) (pre_prepared_row ∷ []) (omega arith) (noted backup refl refl prepared_slot_is refl)) refl in
+    (move backup 2 (first_checkpoint ∷ []) (prepared_row ∷ []) (pre_prepared_row ∷ []) (omega arith) (noted backup refl refl prepared_slot_is refl)) refl in
     let c3 : ℕ → Core = with_core c2 2 started in
     let t3 : Sent = (2, say.NewView new) ∷ t2 in
     let r3 : ReachedWith ChoiceWithoutWitnesses g c3 t3 = follows ChoiceWithoutWitnesses g c2 t2 2 started (say.NewView new ∷ []) r2 (omega arith, refl)
-        (rule.ChoiceWithoutWitnesses.offer moved new heard (one_slot other_digest) 1 refl refl refl agrees (heard_in t2 (1, omega arith, refl) (0, omega arith, refl)) (accepts_one moved new other_digest chosen_one refl)) refl in
+    (rule.ChoiceWithoutWitnesses.offer moved new heard (one_slot other_digest) 1 refl refl refl agrees (heard_in t2 (1, omega arith, refl) (0, omega arith, refl)) (accepts_one moved new other_digest chosen_one refl)) refl in
     follows ChoiceWithoutWitnesses g c3 t3 1 entered (vote ∷ []) r3 (omega arith, refl)
     (rule.ChoiceWithoutWitnesses.enter moved new heard (one_slot other_digest) 1 (vote ∷ []) refl (λ e. absurd (omega (arith, e))) refl (inr (0, omega arith, refl)) agrees
     (λ h k. heard_is_had g t3 2 h (heard_in t3 (2, omega arith, refl) (1, omega arith, refl) h k)) (accepts_one moved new other_digest chosen_one refl) (prepares_one moved new other_digest chosen_one 2 refl)) refl
@@ -155,11 +155,11 @@ last_run =
     let c1 : ℕ → Core = with_core new_cores 1 (after_prepare entered 1 other_digest) in
     let t1 : Sent = (1, agree) ∷ new_sent in
     let r1 : ReachedWith ChoiceWithoutWitnesses g c1 t1 = steps ChoiceWithoutWitnesses g new_cores new_sent 1 (after_prepare entered 1 other_digest) (agree ∷ []) new_run (omega arith, refl)
-        (prepare entered 1 other_digest refl refl (two_have 1 3 (λ k. (k ≡ primary g 2 → ⊥) × Told g new_sent k vote) (omega arith) (λ e. absurd (omega (arith, e)), inr (0, omega arith, refl)) (λ e. absurd (omega (arith, e)), inl refl))) refl in
+    (prepare entered 1 other_digest refl refl (two_have 1 3 (λ k. (k ≡ primary g 2 → ⊥) × Told g new_sent k vote) (omega arith) (λ e. absurd (omega (arith, e)), inr (0, omega arith, refl)) (λ e. absurd (omega (arith, e)), inl refl))) refl in
     let c2 : ℕ → Core = with_core c1 2 (after_prepare started 1 other_digest) in
     let t2 : Sent = (2, agree) ∷ t1 in
     let r2 : ReachedWith ChoiceWithoutWitnesses g c2 t2 = steps ChoiceWithoutWitnesses g c1 t1 2 (after_prepare started 1 other_digest) (agree ∷ []) r1 (omega arith, refl)
-        (prepare started 1 other_digest refl refl (two_have 1 3 (λ k. (k ≡ primary g 2 → ⊥) × Told g t1 k vote) (omega arith) (λ e. absurd (omega (arith, e)), inr (1, omega arith, refl)) (λ e. absurd (omega (arith, e)), inl refl))) refl in
+    (prepare started 1 other_digest refl refl (two_have 1 3 (λ k. (k ≡ primary g 2 → ⊥) × Told g t1 k vote) (omega arith) (λ e. absurd (omega (arith, e)), inr (1, omega arith, refl)) (λ e. absurd (omega (arith, e)), inl refl))) refl in
     steps ChoiceWithoutWitnesses g c2 t2 1 (after_commit (after_prepare entered 1 other_digest) 1 other_digest) [] r2 (omega arith, refl)
     (commit (after_prepare entered 1 other_digest) 1 other_digest refl refl (three_have 1 2 3 (λ k. Told g t2 k agree) (omega arith) (inr (1, omega arith, refl)) (inr (0, omega arith, refl)) (inl refl))) refl
 

@@ -1,11 +1,10 @@
 -- From the facts to agreement: what is settled stays, by induction over views.
-use Rattle.std.proofs.Common.{ℕ, zero, suc, ◌+◌, ◌<◌, ◌≤◌, ◌≡◌, ◌⊎◌, inl, inr, Bool, true, false, not, ◌&&◌, ◌||◌, refl, sym, ◌∙◌, subst, List, ◌==◌, arith}
+use Rattle.std.proofs.Common.{ℕ, zero, suc, ◌<◌, ◌≤◌, ◌≡◌, ◌⊎◌, inl, inr, true, false, not, ◌&&◌, sym, ◌∙◌, subst, List, ◌==◌, arith}
 use Rattle.std.specs.Prelude.{nat_lt, nat_le, length}
 use Rattle.std.specs.List.{Contains, count_by, list_any, list_all}
 use Rattle.std.specs.Str.{bytes_eq}
 use Rattle.std.proofs.lemmas.Bool.{true≢false, and_parts, and_from, or_left, or_right, eqb-true, eq-eqb, ltb-true, lt-ltb, leb-true, not-true, cases_order}
 use Rattle.std.proofs.lemmas.Slice.Eq.{bytes_eq-Decides}
-use Rattle.pws_base.specs.Counts.{count_below}
 use Rattle.pws_base.specs.Shapes.{quorum_of, weak_of}
 use Rattle.pws_msg.specs.declared.changes.PRow.{PRow}
 use Rattle.pws_msg.specs.declared.changes.QRow.{QRow}
@@ -13,17 +12,16 @@ use Rattle.pws_msg.specs.declared.changes.Seen.{Seen}
 use Rattle.pws_msg.specs.declared.changes.ViewChange.{ViewChange}
 use Rattle.pws_msg.specs.declared.changes.NewView.{NewView}
 use Rattle.pws_change.specs.declared.heard.Heard.{Heard}
-use Rattle.pws_change.specs.declared.decisions.Decision.TheVariants.{Chosen}
 use Rattle.pws_change.specs.Changes.{has_entry, is_witness, is_row_from, covers, lacks}
-use Rattle.pws_change.specs.Choices.{IsChoice, IsBestEntry, last_of, chosen_at, null_digest}
+use Rattle.pws_change.specs.Choices.{last_of, chosen_at, null_digest}
 use Rattle.pws_change.specs.Rising.{rises, is_digest_below}
 use Rattle.pws_change.specs.Valid.{IsValid, is_q_row_valid, is_above, are_digests_valid}
 use Rattle.pws_change.specs.Laws.{HardlyLackedIsKept}
-use Rattle.pws_safety.specs.Replicas.{AtLeast, sent_one}
+use Rattle.pws_safety.specs.Replicas.{sent_one}
 use Rattle.pws_safety.specs.Statement.{Commit}
 use Rattle.pws_safety.specs.Statement as say
-use Rattle.pws_safety.specs.Statements.{Group, Sent, Told, Gives, StandsFor, Backs, IsSettled, IsCorrect, size}
-use Rattle.pws_safety.specs.Kept.{IsBehind, HasGrounds, HasReason}
+use Rattle.pws_safety.specs.Statements.{Group, Sent, Gives, StandsFor, Backs, IsSettled, IsCorrect, size}
+use Rattle.pws_safety.specs.Kept.{IsBehind, HasGrounds}
 use Rattle.pws_safety.specs.Facts.{Facts}
 use Rattle.pws_safety.specs.Agreement.{FactsGiveAgreement, QuorumSettles}
 use Rattle.pws_safety.proofs.Members.{any_has, any_from, all_has, all_from}

@@ -93,8 +93,8 @@ pub record GivesUnwitnessed (f : ℕ) (heard : List Heard) (c : Choice) : Type 0
   pub start : IsStart f heard c.place c.digest
   pub last : last_of c ≡ last_place c.place heard
   pub chosen :
-    (place : ℕ) → c.place < place → place ≤ last_of c
-    → (view : ℕ) × (1 ≤ count_by (has_entry place (chosen_at c place) view) heard) × (quorum_of f ≤ count_by (allows_entry place (chosen_at c place) view) heard)
+      (place : ℕ) → c.place < place → place ≤ last_of c
+      → (view : ℕ) × (1 ≤ count_by (has_entry place (chosen_at c place) view) heard) × (quorum_of f ≤ count_by (allows_entry place (chosen_at c place) view) heard)
 
 pub record AgreesUnwitnessed (f : ℕ) (new : NewView) (heard : List Heard) : Type 0 where
   pub rises : IsTrue (rises (λ a b. nat_lt a.index b.index) new.named)

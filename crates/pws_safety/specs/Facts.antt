@@ -1,5 +1,5 @@
 -- The facts on what was sent from which agreement follows, with no step of a voter looked at again.
-use Rattle.std.specs.Prelude.{ℕ, ◌≡◌, ◌<◌, ◌≤◌, ◌⊎◌, List}
+use Rattle.std.specs.Prelude.{ℕ, ◌≡◌, ◌<◌, ◌≤◌, List}
 use Rattle.std.specs.List.{Contains}
 use Rattle.pws_base.specs.Shapes.{quorum_of}
 use Rattle.pws_msg.specs.declared.changes.PRow.{PRow}

@@ -1,6 +1,6 @@
 -- What every correct voter keeps at every step: the invariant of agreement, in the form in which a step keeps it. It
 -- speaks of the voter's own state and statements, and of what stands behind them in the statements that were sent.
-use Rattle.std.specs.Prelude.{ℕ, ◌≡◌, ◌<◌, ◌≤◌, ◌⊎◌, true, false, List, [], Option, Some}
+use Rattle.std.specs.Prelude.{ℕ, ◌≡◌, ◌<◌, ◌≤◌, ◌⊎◌, true, false, List, [], Some}
 use Rattle.std.specs.List.{Contains}
 use Rattle.pws_base.specs.Shapes.{quorum_of}
 use Rattle.pws_msg.specs.declared.changes.PRow.{PRow}

@@ -1,6 +1,6 @@
 -- The runs of a group: its correct replicas step in any order, hear what they like of what was sent, and the
 -- compromised ones say what they like.
-use Rattle.std.specs.Prelude.{ℕ, ◌≡◌, true, if◌then◌else◌, List, [], ◌==◌}
+use Rattle.std.specs.Prelude.{ℕ, ◌≡◌, true, if◌then◌else◌, [], ◌==◌}
 use Rattle.std.specs.List.{Contains}
 use Rattle.pws_msg.specs.declared.changes.ViewChange.{ViewChange}
 use Rattle.pws_safety.specs.Replicas.{IsSound}

@@ -8,7 +8,6 @@ use Rattle.pws_msg.specs.declared.changes.PRow.{PRow}
 use Rattle.pws_msg.specs.declared.changes.QRow.{QRow}
 use Rattle.pws_msg.specs.declared.changes.Seen.{Seen}
 use Rattle.pws_msg.specs.declared.changes.ViewChange.{ViewChange}
-use Rattle.pws_msg.specs.declared.changes.Choice.{Choice}
 use Rattle.pws_msg.specs.declared.changes.NewView.{NewView}
 use Rattle.pws_change.specs.declared.heard.Heard.{Heard}
 use Rattle.pws_change.specs.Agreements.{Agrees}
