@@ -17,7 +17,7 @@ use Rattle.pws_safety.specs.Counterexamples.{ReachedWith, Misleads, ForgetsSlots
 use Rattle.pws_safety.specs.Counterexamples as rule
 use Rattle.pws_safety.proofs.FirstRun.{two_have, three_have, one_occurs, group, backup_prepared, committed_cores, prepared_sent, committed_run}
 use Rattle.pws_safety.proofs.Reports.{each_three, starts, no_slots, accepts_none, prepares_none, heard_is_had}
-use Rattle.pws_safety.proofs.Ruled.{without_rule, steps, follows, other_digest, digests_differ}
+use Rattle.pws_safety.proofs.Ruled.{without_rule, steps, follows, other_digest, disagreement_of}
 
 -- a report of nothing
 abbrev empty_report : ViewChange
@@ -146,14 +146,5 @@ forgets_slots_misleads = record {
   sent = last_sent;
   trusted = one_occurs same_digest empty_report;
   reached = last_run;
-  disagreement = record {
-    one = 0;
-    other = 1;
-    place = 1;
-    digest = example_digest;
-    other_digest = other_digest;
-    committed = ((omega arith, refl), refl);
-    other_committed = ((omega arith, refl), refl);
-    differ = digests_differ;
-  };
+  disagreement = disagreement_of g last_cores 0 1 ((omega arith, refl), refl) ((omega arith, refl), refl);
 }

@@ -13,6 +13,7 @@ use Rattle.pws_safety.specs.Statement as say
 use Rattle.pws_safety.specs.Statements.{Group, Sent, Told, Gives, StandsBy, StandsFor, Backs, IsCorrect, size, primary}
 use Rattle.pws_safety.specs.Voters.{Slot, Core, new_core, AcceptsChosen, PreparesChosen, IsHeard, report_of, Step, propose, accept, prepare, commit, lower, move, ack, offer, enter}
 use Rattle.pws_safety.specs.Kept.{Stood, TellsTrue, HasGrounds, HasReason, Keeps, GroupKeeps}
+use Rattle.pws_safety.specs.Facts.{OneVoicePerView, CommitHasQuorum, ReportsItsCommits, StandsOnAChoice}
 use Rattle.pws_safety.specs.Runs.{Reached, start, step, again, IsTrusted, with_core}
 use Rattle.pws_safety.specs.Agreement.{RepeatsKeep, MoreIsKept, HadIsBehind, CommittedIsSettled, StepsKeep, KeptGivesFacts, RunsKeep}
 use Rattle.pws_safety.proofs.Members.{nowhere, here, first_or_rest}
@@ -277,25 +278,41 @@ steps_keep g cores before after i s trusted kept ci t sends =
       only_said = linked.only_said;
     }
 
+-- each fact from the invariant
+module _ (g : Group) (cores : ℕ → Core) (sent : Sent) (kept : GroupKeeps g cores sent) where
+  own : (i v p : ℕ) (d : List ℕ) → IsCorrect g i → StandsFor g sent i v p d → Stood g i (cores i).said v p d
+  own i v p d ci s = (s.0, kept.only_said i ci s.0 s.1, s.2)
+
+  reported : (i : ℕ) (c : ViewChange) → IsCorrect g i → Contains sent (i, say.ViewChange c) → TellsTrue g i (cores i).said c
+  reported i c ci h = (kept.each i ci).changes_true c (kept.only_said i ci _ h)
+
+  one_voice : OneVoicePerView g sent
+  one_voice = record {
+    one_digest = λ i v p d e ci a b. (kept.each i ci).one_digest v p d e (own i v p d ci a) (own i v p e ci b);
+    one_change = λ i c e ci a b same. (kept.each i ci).one_change c e (kept.only_said i ci _ a) (kept.only_said i ci _ b) same;
+  }
+
+  commit_has_quorum : CommitHasQuorum g sent
+  commit_has_quorum i v p d ci h = (kept.each i ci).behind_commit v p d (kept.only_said i ci _ h)
+
+  reports_its_commits : ReportsItsCommits g sent
+  reports_its_commits = record {
+    row_is_commit = λ i c ci h r k. ((reported i c ci h).row_earlier r k, kept.said i ci _ ((reported i c ci h).row_said r k));
+    row_is_latest = λ i c ci h v p d k below lw. (reported i c ci h).row_latest v p d (kept.only_said i ci _ k) below lw;
+    seen_stands = λ i c ci h q k e j. (let s = (reported i c ci h).seen_stood q k e j in (s.0, kept.said i ci s.0 s.1, s.2));
+  }
+
+  stands_on_a_choice : StandsOnAChoice g sent
+  stands_on_a_choice i v p d ci s = (kept.each i ci).reason v p d (own i v p d ci s)
+
 pub kept_gives_facts : KeptGivesFacts
-kept_gives_facts g cores sent sound kept =
-    let own : (i : ℕ) → IsCorrect g i → (v p : ℕ) (d : List ℕ) → StandsFor g sent i v p d → Stood g i (cores i).said v p d = λ i ci v p d s. (s.0, kept.only_said i ci s.0 s.1, s.2) in
-    let out : (i : ℕ) → IsCorrect g i → (v p : ℕ) (d : List ℕ) → Stood g i (cores i).said v p d → StandsFor g sent i v p d = λ i ci v p d s. (s.0, kept.said i ci s.0 s.1, s.2) in
-    let told : (i : ℕ) (c : ViewChange) → IsCorrect g i → Contains sent (i, say.ViewChange c) → TellsTrue g i (cores i).said c = λ i c ci h. (kept.each i ci).changes_true c (kept.only_said i ci _ h) in
-    record {
-      sound = sound;
-      one_voice = record {
-        one_digest = λ i v p d e ci a b. (kept.each i ci).one_digest v p d e (own i ci v p d a) (own i ci v p e b);
-        one_change = λ i c e ci a b same. (kept.each i ci).one_change c e (kept.only_said i ci _ a) (kept.only_said i ci _ b) same;
-      };
-      commit_has_quorum = λ i v p d ci h. (kept.each i ci).behind_commit v p d (kept.only_said i ci _ h);
-      reports_its_commits = record {
-        row_is_commit = λ i c ci h r k. ((told i c ci h).row_earlier r k, kept.said i ci _ ((told i c ci h).row_said r k));
-        row_is_latest = λ i c ci h v p d k below lw. (told i c ci h).row_latest v p d (kept.only_said i ci _ k) below lw;
-        seen_stands = λ i c ci h q k e j. out i ci e.view q.place e.digest ((told i c ci h).seen_stood q k e j);
-      };
-      stands_on_a_choice = λ i v p d ci s. (kept.each i ci).reason v p d (own i ci v p d s);
-    }
+kept_gives_facts g cores sent sound kept = record {
+  sound = sound;
+  one_voice = one_voice g cores sent kept;
+  commit_has_quorum = commit_has_quorum g cores sent kept;
+  reports_its_commits = reports_its_commits g cores sent kept;
+  stands_on_a_choice = stands_on_a_choice g cores sent kept;
+}
 
 pub repeats_keep : RepeatsKeep
 repeats_keep g cores before after kept repeats = record {

@@ -15,7 +15,7 @@ use Rattle.pws_safety.specs.Counterexamples.{ReachedWith, Misleads, CheckpointFl
 use Rattle.pws_safety.specs.Counterexamples as rule
 use Rattle.pws_safety.proofs.FirstRun.{two_have, three_have, one_occurs, group, backup_prepared, committed_cores, prepared_sent, committed_run}
 use Rattle.pws_safety.proofs.Reports.{each_three, reported, kept_choice, keeps, report_valid, noted, prepared_slot_is, no_slots, accepts_none, prepares_none, heard_is_had}
-use Rattle.pws_safety.proofs.Ruled.{without_rule, steps, follows, other_digest, digests_differ}
+use Rattle.pws_safety.proofs.Ruled.{without_rule, steps, follows, other_digest, disagreement_of}
 
 abbrev same_digest : ViewChange → List ℕ
 same_digest c = []
@@ -136,14 +136,5 @@ checkpoint_floor_misleads = record {
   sent = last_sent;
   trusted = one_occurs same_digest (example_report 3);
   reached = last_run;
-  disagreement = record {
-    one = 0;
-    other = 1;
-    place = 1;
-    digest = example_digest;
-    other_digest = other_digest;
-    committed = ((omega arith, refl), refl);
-    other_committed = ((omega arith, refl), refl);
-    differ = digests_differ;
-  };
+  disagreement = disagreement_of g last_cores 0 1 ((omega arith, refl), refl) ((omega arith, refl), refl);
 }

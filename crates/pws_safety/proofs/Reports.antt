@@ -18,7 +18,7 @@ use Rattle.pws_change.specs.Rising.{is_digest_at_most}
 use Rattle.pws_change.specs.Valid.{IsValid, are_p_rows_valid, are_q_rows_valid}
 use Rattle.pws_safety.specs.Statement.{Prepare}
 use Rattle.pws_safety.specs.Statements.{Group, Sent, Gives}
-use Rattle.pws_safety.specs.Voters.{Slot, Core, accepted, with_slot, IsNoted, AcceptsChosen, PreparesChosen, IsHeard, IsHad}
+use Rattle.pws_safety.specs.Voters.{Slot, Core, accepted, with_slot, IsPreparedBy, IsSeenBy, IsNoted, AcceptsChosen, PreparesChosen, IsHeard, IsHad}
 use Rattle.pws_safety.specs.Witnesses.{example_digest, first_checkpoint, prepared_row, seen_digest, pre_prepared_row, example_report}
 use Rattle.pws_safety.proofs.Members.{nowhere, here, first_or_rest, any_has, count_some}
 use Rattle.pws_safety.proofs.Slots.{some_same, none_some, slot_here, slot_other}
@@ -72,12 +72,13 @@ prepared_slot_is q x h =
 -- as it leaves view 0 that slot is noted
 pub noted : (s : Core) → s.view ≡ 0 → s.slot 1 ≡ Some prepared_one → ((q : ℕ) (x : Slot) → s.slot q ≡ Some x → q ≡ 1) → s.prepared ≡ [] → IsNoted s (prepared_row ∷ []) (pre_prepared_row ∷ [])
 noted s view at only none = record {
-  from = λ r h. inr (let e = only_item prepared_row r h in subst (λ (y : PRow). (x : Slot) × (s.slot y.place ≡ Some x) × (x.prepared ≡ true) × (y.digest ≡ x.digest) × (y.view ≡ s.view)) e (prepared_one, at, refl, refl, sym view));
+  from = λ r h. inr (let e = only_item prepared_row r h in subst (IsPreparedBy s) e (prepared_one, at, refl, refl, sym view));
   slots = λ q x e p. (prepared_row, here prepared_row [], sym (only q x e), sym view);
   no_earlier = λ r h. absurd (nowhere r (subst (λ xs. Contains xs r) none h));
   seen = λ q h e k. (let a = only_item pre_prepared_row q h in
       let b = only_item seen_digest e (subst (λ (y : QRow). Contains y.digests e) (sym a) k) in
-      inr (prepared_one, subst (λ (y : QRow). s.slot y.place ≡ Some prepared_one) a at, sym (ap (λ (y : Seen). y.digest) b), sym (ap (λ (y : Seen). y.view) b) ∙ sym view));
+      let noted_there : IsSeenBy s q.place e = inr (prepared_one, subst (λ (y : QRow). s.slot y.place ≡ Some prepared_one) a at, sym (ap (λ (y : Seen). y.digest) b), sym (ap (λ (y : Seen). y.view) b) ∙ sym view) in
+      noted_there);
 }
 
 -- three reports of that slot have the choice that keeps it

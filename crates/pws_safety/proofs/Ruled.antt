@@ -10,7 +10,7 @@ use Rattle.pws_safety.specs.Voters.{Core, new_core, after_accept, after_prepare,
 use Rattle.pws_safety.specs.Runs.{Reached, Sends, IsTrusted, with_core}
 use Rattle.pws_safety.specs.Runs as run
 use Rattle.pws_safety.specs.Witnesses.{example_digest}
-use Rattle.pws_safety.specs.Counterexamples.{ReachedWith, start, step, again, ruled, Misleads, QuorumOfTwoF, VotesTwice}
+use Rattle.pws_safety.specs.Counterexamples.{ReachedWith, start, step, again, ruled, HasCommitted, Disagreement, Misleads, QuorumOfTwoF, VotesTwice}
 use Rattle.pws_safety.specs.Counterexamples as rule
 use Rattle.pws_safety.proofs.Next.{said_by, IsLinked, linked_start, linked_step, linked_again, sends_next}
 use Rattle.pws_safety.proofs.FirstRun.{two_have}
@@ -46,6 +46,10 @@ other_digest = replicate 32 2
 
 pub digests_differ : example_digest ≡ other_digest → ⊥
 digests_differ e = let k = ap (λ xs. slice_index_or xs 0 0) e in omega (arith, k)
+
+-- two correct replicas disagree at place 1
+pub disagreement_of : (g : Group) (cores : ℕ → Core) (i j : ℕ) → HasCommitted g cores i 1 example_digest → HasCommitted g cores j 1 other_digest → Disagreement g cores
+disagreement_of g cores i j one other = record { one = i; other = j; place = 1; digest = example_digest; other_digest = other_digest; committed = one; other_committed = other; differ = digests_differ }
 
 -- a group whose primary of view 0 is compromised
 abbrev pub led_astray : Group
@@ -111,14 +115,5 @@ quorum_of_two_f_misleads = record {
   sent = two_done_sent;
   trusted = astray_is_trusted;
   reached = two_done;
-  disagreement = record {
-    one = 1;
-    other = 2;
-    place = 1;
-    digest = example_digest;
-    other_digest = other_digest;
-    committed = ((omega arith, refl), refl);
-    other_committed = ((omega arith, refl), refl);
-    differ = digests_differ;
-  };
+  disagreement = disagreement_of led_astray two_done_cores 1 2 ((omega arith, refl), refl) ((omega arith, refl), refl);
 }

@@ -8,7 +8,7 @@ use Rattle.pws_safety.specs.Witnesses.{example_digest}
 use Rattle.pws_safety.specs.Counterexamples.{ReachedWith, start, Misleads, VotesTwice}
 use Rattle.pws_safety.specs.Counterexamples as rule
 use Rattle.pws_safety.proofs.FirstRun.{two_have, three_have}
-use Rattle.pws_safety.proofs.Ruled.{steps, follows, other_digest, digests_differ, led_astray, astray_is_trusted, took, agreed, done}
+use Rattle.pws_safety.proofs.Ruled.{steps, follows, other_digest, disagreement_of, led_astray, astray_is_trusted, took, agreed, done}
 
 abbrev vote : Statement
 vote = Prepare 0 1 example_digest
@@ -93,14 +93,5 @@ votes_twice_misleads = record {
   sent = twice_sent;
   trusted = astray_is_trusted;
   reached = twice_run;
-  disagreement = record {
-    one = 2;
-    other = 3;
-    place = 1;
-    digest = example_digest;
-    other_digest = other_digest;
-    committed = ((omega arith, refl), refl);
-    other_committed = ((omega arith, refl), refl);
-    differ = digests_differ;
-  };
+  disagreement = disagreement_of led_astray twice_cores 2 3 ((omega arith, refl), refl) ((omega arith, refl), refl);
 }

@@ -22,7 +22,7 @@ use Rattle.pws_safety.specs.Counterexamples.{ReachedWith, Misleads, ChoiceWithou
 use Rattle.pws_safety.specs.Counterexamples as rule
 use Rattle.pws_safety.proofs.FirstRun.{two_have, three_have, change_same, group, backup_prepared, committed_cores, prepared_sent, committed_run}
 use Rattle.pws_safety.proofs.Reports.{each_three, starts, report_valid, noted, prepared_slot_is, one_slot, accepts_one, prepares_one, heard_is_had}
-use Rattle.pws_safety.proofs.Ruled.{without_rule, steps, follows, other_digest, digests_differ}
+use Rattle.pws_safety.proofs.Ruled.{without_rule, steps, follows, other_digest, digests_differ, disagreement_of}
 
 -- a report that claims another digest, prepared in view 1
 abbrev lie : ViewChange
@@ -170,14 +170,5 @@ choice_without_witnesses_misleads = record {
   sent = last_sent;
   trusted = trusted;
   reached = last_run;
-  disagreement = record {
-    one = 0;
-    other = 1;
-    place = 1;
-    digest = example_digest;
-    other_digest = other_digest;
-    committed = ((omega arith, refl), refl);
-    other_committed = ((omega arith, refl), refl);
-    differ = digests_differ;
-  };
+  disagreement = disagreement_of g last_cores 0 1 ((omega arith, refl), refl) ((omega arith, refl), refl);
 }

@@ -18,7 +18,7 @@ pub record Group : Type 0 where
   pub compromised : ℕ → Bool
   -- the digest of a view change, by which others name it
   pub digest_of : ViewChange → List ℕ
-  -- whether a view change is among those of which a digest is taken in the run
+  -- whether a view change is among those of which a digest is taken in the run: no two of these may collide
   pub occurs : ViewChange → Bool
   -- whether a digest is that of an event that is backed: it is what others asked for, or what enough replicas said
   pub backed : List ℕ → Bool

@@ -1,5 +1,6 @@
--- A correct voter, as far as agreement goes, and the steps that it may take, after scope of Castro and Liskov's
--- protocol with this project's rules for view changes: docs/PROTOCOL.md tells them.
+-- A correct voter, as far as agreement goes, and the steps that it may take, after the protocol of Castro and Liskov
+-- (1999, 2002); the rules of view changes are this project's own. docs/PROTOCOL.md tells them. A step may do what a
+-- voter may do, and more: what only progress asks for is left out, as how many acknowledgements make a primary offer.
 use Rattle.std.specs.Prelude.{ℕ, ◌≡◌, ◌+◌, ◌*◌, ◌<◌, ◌≤◌, ◌⊎◌, Bool, true, false, if◌then◌else◌, List, [], ◌∷◌, ◌++◌, Option, Some, None, nat_lt, ◌==◌, max}
 use Rattle.std.specs.List.{Contains}
 use Rattle.pws_base.specs.Shapes.{quorum_of}
@@ -98,7 +99,7 @@ after_move s view checkpoints prepared pre_prepared = record s {
   said = say.ViewChange (report_of s view checkpoints prepared pre_prepared) ∷ s.said;
 }
 
--- a row of an older view, or of a prepared slot with the view that it leaves
+-- a row that stands for a prepared slot, with the view that it leaves
 abbrev pub IsPreparedBy : Core → PRow → Type 0
 IsPreparedBy s r = (slot : Slot) × (s.slot r.place ≡ Some slot) × (slot.prepared ≡ true) × (r.digest ≡ slot.digest) × (r.view ≡ s.view)
 
@@ -108,8 +109,8 @@ IsSeenBy s place seen =
     ((row : QRow) × Contains s.pre_prepared row × (row.place ≡ place) × Contains row.digests seen)
     ⊎ ((slot : Slot) × (s.slot place ≡ Some slot) × (seen.digest ≡ slot.digest) × (seen.view ≡ s.view))
 
--- as it leaves a view, each prepared slot takes the place of the row that the prepared set had there, and each
--- accepted slot is noted in the pre-prepared set
+-- as it leaves a view, it has a row of that view for each prepared slot, it loses a row only to such a one at its
+-- place, and it adds nothing else; and the pre-prepared set has what it had and the accepted slots, or less
 pub record IsNoted (s : Core) (prepared : List PRow) (pre_prepared : List QRow) : Type 0 where
   pub from : (r : PRow) → Contains prepared r → Contains s.prepared r ⊎ IsPreparedBy s r
   pub slots : (place : ℕ) (slot : Slot) → s.slot place ≡ Some slot → slot.prepared ≡ true → (r : PRow) × Contains prepared r × (r.place ≡ place) × (r.view ≡ s.view)
@@ -120,7 +121,8 @@ pub record IsNoted (s : Core) (prepared : List PRow) (pre_prepared : List QRow) 
 abbrev pub after_enter : Core → NewView → (ℕ → Option Slot) → ℕ → List Statement → Core
 after_enter s new slots last says = record s { active = true; floor = last_of new.choice; last = last; slot = slots; new_view = Some new; said = says ++ s.said }
 
--- as it enters a view it accepts of the chosen digests those whose places are above its low mark, or fewer
+-- as it enters a view it accepts of the chosen digests those whose places are above its low mark, or fewer, and
+-- nothing else
 abbrev pub AcceptsChosen : Core → NewView → (ℕ → Option Slot) → ℕ → Type 0
 AcceptsChosen s new slots last = (place : ℕ) (slot : Slot) → slots place ≡ Some slot → (s.low < place) × (place ≤ last) × Gives new.choice place slot.digest × (slot ≡ accepted slot.digest)
 
@@ -129,7 +131,7 @@ pub record PreparesChosen (s : Core) (new : NewView) (slots : ℕ → Option Slo
   pub each : (place : ℕ) (slot : Slot) → slots place ≡ Some slot → Contains says (Prepare s.view place slot.digest)
   pub only : (x : Statement) → Contains says x → (place : ℕ) × (digest : List ℕ) × (x ≡ Prepare s.view place digest) × Gives new.choice place digest
 
--- a valid view change for the view that can be heard as the replica's
+-- a valid view change for the view, one of those that occur, that can be heard as the replica's
 pub record IsHeard (g : Group) (sent : Sent) (view index : ℕ) (change : ViewChange) : Type 0 where
   pub replica : index < size g
   pub told : Told g sent index (say.ViewChange change)
@@ -137,8 +139,9 @@ pub record IsHeard (g : Group) (sent : Sent) (view index : ℕ) (change : ViewCh
   pub valid : IsValid change
   pub occurs : g.occurs change ≡ true
 
--- a view change for the view that a NEW_VIEW names, with its sender and its digest, is had: it can be heard from its
--- sender, or somebody passed it on and f replicas acknowledged that digest, none of them its sender or the primary
+-- a view change that a NEW_VIEW of the view names, by its sender and its digest, is had: it is a valid one for the view
+-- with this digest, and it can be heard from its sender, or f replicas acknowledged the digest, none of them its sender
+-- or the primary; then anybody may have passed it on
 pub record IsHad (g : Group) (sent : Sent) (view : ℕ) (heard : Heard) : Type 0 where
   pub replica : heard.index < size g
   pub digest : g.digest_of heard.change ≡ heard.digest
