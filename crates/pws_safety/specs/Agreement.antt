@@ -20,15 +20,19 @@ use Rattle.pws_safety.specs.Runs.{Reached, Sends, Repeats, IsTrusted, with_core}
 -- a digest that is settled at a place is the only one for which a correct replica stands there in a later view
 abbrev pub SettledStays : Group → Sent → Type 0
 SettledStays g sent =
-    (view later place i : ℕ) (d e : List ℕ) → IsSettled g sent view place d → view < later → IsCorrect g i → StandsFor g sent i later place e → e ≡ d
+    (view later place i : ℕ) (d e : List ℕ) → IsSettled g sent view place d → view < later → IsCorrect g i
+    → StandsFor g sent i later place e → e ≡ d
 
 -- two digests that are settled at a place, in whichever views, are one
 abbrev pub OneIsSettled : Group → Sent → Type 0
-OneIsSettled g sent = (view other place : ℕ) (d e : List ℕ) → IsSettled g sent view place d → IsSettled g sent other place e → d ≡ e
+OneIsSettled g sent =
+    (view other place : ℕ) (d e : List ℕ) → IsSettled g sent view place d → IsSettled g sent other place e → d ≡ e
 
 -- each digest for which a correct replica stands is that of a backed event
 abbrev pub StandsForBacked : Group → Sent → Type 0
-StandsForBacked g sent = (i view place : ℕ) (digest : List ℕ) → IsCorrect g i → StandsFor g sent i view place digest → g.backed digest ≡ true
+StandsForBacked g sent =
+    (i view place : ℕ) (digest : List ℕ) → IsCorrect g i → StandsFor g sent i view place digest
+    → g.backed digest ≡ true
 
 -- all three follow from the facts alone; the last where the Null event counts as backed
 pub record FactsGiveAgreement : Type 0 where
@@ -51,13 +55,16 @@ StepsKeep =
 
 -- so does what is only sent again, or by compromised replicas
 abbrev pub RepeatsKeep : Type 0
-RepeatsKeep = (g : Group) (cores : ℕ → Core) (before after : Sent) → GroupKeeps g cores before → Repeats g before after → GroupKeeps g cores after
+RepeatsKeep =
+    (g : Group) (cores : ℕ → Core) (before after : Sent) → GroupKeeps g cores before → Repeats g before after
+    → GroupKeeps g cores after
 
 -- and all that only makes more view changes occur and more events backed
 abbrev pub MoreIsKept : Type 0
 MoreIsKept =
     (g : Group) (occurs : ViewChange → Bool) (backed : List ℕ → Bool) (cores : ℕ → Core) (sent : Sent)
-    → ((change : ViewChange) → g.occurs change ≡ true → occurs change ≡ true) → ((digest : List ℕ) → g.backed digest ≡ true → backed digest ≡ true)
+    → ((change : ViewChange) → g.occurs change ≡ true → occurs change ≡ true)
+    → ((digest : List ℕ) → g.backed digest ≡ true → backed digest ≡ true)
     → GroupKeeps g cores sent → GroupKeeps (record g { occurs = occurs; backed = backed }) cores sent
 
 -- under the invariant, the view changes that a NEW_VIEW names and a replica has are behind it: each of a correct
@@ -65,18 +72,21 @@ MoreIsKept =
 abbrev pub HadIsBehind : Type 0
 HadIsBehind =
     (g : Group) (cores : ℕ → Core) (sent : Sent) (new : NewView) (heard : List Heard) → IsTrusted g → GroupKeeps g cores sent
-    → Told g sent (primary g new.view) (say.NewView new) → Agrees g.f new heard → ((h : Heard) → Contains heard h → IsHad g sent new.view h)
+    → Told g sent (primary g new.view) (say.NewView new) → Agrees g.f new heard
+    → ((h : Heard) → Contains heard h → IsHad g sent new.view h)
     → IsBehind g sent new heard
 
 -- under the invariant, what a correct replica committed is settled
 abbrev pub CommittedIsSettled : Type 0
 CommittedIsSettled =
-    (g : Group) (cores : ℕ → Core) (sent : Sent) (i place : ℕ) (slot : Slot) → IsSound g.f g.compromised → GroupKeeps g cores sent
-    → IsCorrect g i → (cores i).slot place ≡ Some slot → slot.committed ≡ true → IsSettled g sent (cores i).view place slot.digest
+    (g : Group) (cores : ℕ → Core) (sent : Sent) (i place : ℕ) (slot : Slot) → IsSound g.f g.compromised
+    → GroupKeeps g cores sent → IsCorrect g i → (cores i).slot place ≡ Some slot → slot.committed ≡ true
+    → IsSettled g sent (cores i).view place slot.digest
 
 -- the invariant gives the facts
 abbrev pub KeptGivesFacts : Type 0
-KeptGivesFacts = (g : Group) (cores : ℕ → Core) (sent : Sent) → IsSound g.f g.compromised → GroupKeeps g cores sent → Facts g sent
+KeptGivesFacts =
+    (g : Group) (cores : ℕ → Core) (sent : Sent) → IsSound g.f g.compromised → GroupKeeps g cores sent → Facts g sent
 
 -- each run keeps the invariant
 abbrev pub RunsKeep : Type 0
@@ -87,7 +97,10 @@ RunsKeep = (g : Group) (cores : ℕ → Core) (sent : Sent) → IsTrusted g → 
 pub record RunsAgree : Type 0 where
   pub stays : (g : Group) (cores : ℕ → Core) (sent : Sent) → IsTrusted g → Reached g cores sent → SettledStays g sent
   pub one : (g : Group) (cores : ℕ → Core) (sent : Sent) → IsTrusted g → Reached g cores sent → OneIsSettled g sent
-  pub backed : (g : Group) (cores : ℕ → Core) (sent : Sent) → IsTrusted g → g.backed null_digest ≡ true → Reached g cores sent → StandsForBacked g sent
+  pub backed :
+      (g : Group) (cores : ℕ → Core) (sent : Sent) → IsTrusted g → g.backed null_digest ≡ true → Reached g cores sent
+      → StandsForBacked g sent
   pub committed :
       (g : Group) (cores : ℕ → Core) (sent : Sent) → IsTrusted g → Reached g cores sent
-      → (i j place : ℕ) (a b : Slot) → IsCorrect g i → IsCorrect g j → (cores i).slot place ≡ Some a → (cores j).slot place ≡ Some b → a.committed ≡ true → b.committed ≡ true → a.digest ≡ b.digest
+      → (i j place : ℕ) (a b : Slot) → IsCorrect g i → IsCorrect g j → (cores i).slot place ≡ Some a
+      → (cores j).slot place ≡ Some b → a.committed ≡ true → b.committed ≡ true → a.digest ≡ b.digest

@@ -16,7 +16,7 @@ use Rattle.pws_safety.specs.Replicas.{AtLeast}
 use Rattle.pws_safety.specs.Statement.{Statement, PrePrepare, Prepare, Commit}
 use Rattle.pws_safety.specs.Statement as say
 use Rattle.pws_safety.specs.Statements.{Group, Sent, Told, IsCorrect, size, primary}
-use Rattle.pws_safety.specs.Voters.{Slot, Core, new_core, accepted, after_accept, after_prepare, after_commit, after_move, after_enter, AcceptsChosen, PreparesChosen, IsHeard, IsHad, Step}
+use Rattle.pws_safety.specs.Voters.{Slot, Core, new_core, accepted, prepared_slot, committed_slot, after_accept, after_prepare, after_commit, after_move, after_enter, AcceptsChosen, PreparesChosen, IsHeard, IsHad, Step}
 use Rattle.pws_safety.specs.Runs.{Sends, Repeats, IsTrusted, with_core}
 
 -- the states and statements that a group can reach where correct replicas follow one more rule
@@ -26,7 +26,9 @@ pub data ReachedWith (Rule : Group → Sent → ℕ → Core → Core → Type 0
       (cores : ℕ → Core) (before after : Sent) (i : ℕ) (s : Core)
       → ReachedWith Rule g cores before → IsCorrect g i → Step g before i (cores i) s → Sends g i s before after
       → ReachedWith Rule g (with_core cores i s) after
-  again : (cores : ℕ → Core) (before after : Sent) → ReachedWith Rule g cores before → Repeats g before after → ReachedWith Rule g cores after
+  again :
+      (cores : ℕ → Core) (before after : Sent) → ReachedWith Rule g cores before → Repeats g before after
+      → ReachedWith Rule g cores after
   ruled :
       (cores : ℕ → Core) (before after : Sent) (i : ℕ) (s : Core)
       → ReachedWith Rule g cores before → IsCorrect g i → Rule g before i (cores i) s → Sends g i s before after
@@ -34,7 +36,8 @@ pub data ReachedWith (Rule : Group → Sent → ℕ → Core → Core → Type 0
 
 -- a correct replica committed this digest at the place
 abbrev pub HasCommitted : Group → (ℕ → Core) → ℕ → ℕ → List ℕ → Type 0
-HasCommitted g cores i place digest = IsCorrect g i × ((cores i).slot place ≡ Some (record { digest = digest; prepared = true; committed = true }))
+HasCommitted g cores i place digest =
+    IsCorrect g i × ((cores i).slot place ≡ Some (committed_slot digest))
 
 -- two correct replicas committed two digests at one place
 pub record Disagreement (g : Group) (cores : ℕ → Core) : Type 0 where
@@ -63,7 +66,8 @@ pub data QuorumOfTwoF (g : Group) (sent : Sent) (me : ℕ) : Core → Core → T
       → AtLeast (size g) (2 * g.f - 1) (λ k. (k ≡ primary g s.view → ⊥) × Told g sent k (Prepare s.view place digest))
       → QuorumOfTwoF g sent me s (after_prepare s place digest)
   commit :
-      (s : Core) (place : ℕ) (digest : List ℕ) → s.active ≡ true → s.slot place ≡ Some (record { digest = digest; prepared = true; committed = false })
+      (s : Core) (place : ℕ) (digest : List ℕ) → s.active ≡ true
+      → s.slot place ≡ Some (prepared_slot digest)
       → AtLeast (size g) (2 * g.f) (λ k. Told g sent k (Commit s.view place digest))
       → QuorumOfTwoF g sent me s (after_commit s place digest)
 
@@ -77,12 +81,15 @@ pub data VotesTwice (g : Group) (sent : Sent) (me : ℕ) : Core → Core → Typ
 
 -- a move that forgets what was prepared and accepted in the view that it leaves
 pub data ForgetsSlots (g : Group) (sent : Sent) (me : ℕ) : Core → Core → Type 0 where
-  move : (s : Core) (view : ℕ) (checkpoints : List Checkpoint) → s.view < view → ForgetsSlots g sent me s (after_move s view checkpoints s.prepared s.pre_prepared)
+  move :
+      (s : Core) (view : ℕ) (checkpoints : List Checkpoint) → s.view < view
+      → ForgetsSlots g sent me s (after_move s view checkpoints s.prepared s.pre_prepared)
 
 -- a floor that is the checkpoint alone, and not the last chosen place
 pub data CheckpointFloor (g : Group) (sent : Sent) (me : ℕ) : Core → Core → Type 0 where
   enter :
-      (s : Core) (new : NewView) (heard : List Heard) (slots : ℕ → Option Slot) (last : ℕ) (says : List Statement) → s.active ≡ false → (me ≡ primary g s.view → ⊥) → new.view ≡ s.view
+      (s : Core) (new : NewView) (heard : List Heard) (slots : ℕ → Option Slot) (last : ℕ) (says : List Statement)
+      → s.active ≡ false → (me ≡ primary g s.view → ⊥) → new.view ≡ s.view
       → Told g sent (primary g s.view) (say.NewView new)
       → Agrees g.f new heard → ((h : Heard) → Contains heard h → IsHad g sent s.view h)
       → AcceptsChosen s new slots last → PreparesChosen s new slots says
@@ -94,7 +101,8 @@ pub record GivesUnwitnessed (f : ℕ) (heard : List Heard) (c : Choice) : Type 0
   pub last : last_of c ≡ last_place c.place heard
   pub chosen :
       (place : ℕ) → c.place < place → place ≤ last_of c
-      → (view : ℕ) × (1 ≤ count_by (has_entry place (chosen_at c place) view) heard) × (quorum_of f ≤ count_by (allows_entry place (chosen_at c place) view) heard)
+      → (view : ℕ) × (1 ≤ count_by (has_entry place (chosen_at c place) view) heard)
+      × (quorum_of f ≤ count_by (allows_entry place (chosen_at c place) view) heard)
 
 pub record AgreesUnwitnessed (f : ℕ) (new : NewView) (heard : List Heard) : Type 0 where
   pub rises : IsTrue (rises (λ a b. nat_lt a.index b.index) new.named)
@@ -105,12 +113,15 @@ pub record AgreesUnwitnessed (f : ℕ) (new : NewView) (heard : List Heard) : Ty
 
 pub data ChoiceWithoutWitnesses (g : Group) (sent : Sent) (me : ℕ) : Core → Core → Type 0 where
   offer :
-      (s : Core) (new : NewView) (heard : List Heard) (slots : ℕ → Option Slot) (last : ℕ) → s.active ≡ false → me ≡ primary g s.view → new.view ≡ s.view
-      → AgreesUnwitnessed g.f new heard → ((h : Heard) → Contains heard h → (g.digest_of h.change ≡ h.digest) × IsHeard g sent s.view h.index h.change)
+      (s : Core) (new : NewView) (heard : List Heard) (slots : ℕ → Option Slot) (last : ℕ) → s.active ≡ false
+      → me ≡ primary g s.view → new.view ≡ s.view
+      → AgreesUnwitnessed g.f new heard
+      → ((h : Heard) → Contains heard h → (g.digest_of h.change ≡ h.digest) × IsHeard g sent s.view h.index h.change)
       → AcceptsChosen s new slots last
       → ChoiceWithoutWitnesses g sent me s (after_enter s new slots last (say.NewView new ∷ []))
   enter :
-      (s : Core) (new : NewView) (heard : List Heard) (slots : ℕ → Option Slot) (last : ℕ) (says : List Statement) → s.active ≡ false → (me ≡ primary g s.view → ⊥) → new.view ≡ s.view
+      (s : Core) (new : NewView) (heard : List Heard) (slots : ℕ → Option Slot) (last : ℕ) (says : List Statement)
+      → s.active ≡ false → (me ≡ primary g s.view → ⊥) → new.view ≡ s.view
       → Told g sent (primary g s.view) (say.NewView new)
       → AgreesUnwitnessed g.f new heard → ((h : Heard) → Contains heard h → IsHad g sent s.view h)
       → AcceptsChosen s new slots last → PreparesChosen s new slots says

@@ -67,4 +67,5 @@ Backs g sent k view place digest = (g.compromised k ≡ true) ⊎ StandsFor g se
 
 -- a digest is settled at a place in a view where at least f + 1 correct replicas sent a COMMIT of these
 abbrev pub IsSettled : Group → Sent → ℕ → ℕ → List ℕ → Type 0
-IsSettled g sent view place digest = AtLeast (size g) (weak_of g.f) (λ i. (g.compromised i ≡ false) × Contains sent (i, Commit view place digest))
+IsSettled g sent view place digest =
+    AtLeast (size g) (weak_of g.f) (λ i. (g.compromised i ≡ false) × Contains sent (i, Commit view place digest))

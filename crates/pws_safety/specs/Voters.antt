@@ -28,6 +28,12 @@ pub record Slot : Type 0 where
 abbrev pub accepted : List ℕ → Slot
 accepted digest = record { digest = digest; prepared = false; committed = false }
 
+abbrev pub prepared_slot : List ℕ → Slot
+prepared_slot digest = record { digest = digest; prepared = true; committed = false }
+
+abbrev pub committed_slot : List ℕ → Slot
+committed_slot digest = record { digest = digest; prepared = true; committed = true }
+
 -- the part of a voter's state that agreement rests on
 pub record Core : Type 0 where
   pub view : ℕ
@@ -50,7 +56,18 @@ pub record Core : Type 0 where
 
 -- view 0 needs no new view: each voter is active in it from the start
 abbrev pub new_core : Core
-new_core = record { view = 0; active = true; low = 0; floor = 0; last = 0; slot = λ place. None; prepared = []; pre_prepared = []; new_view = None; said = [] }
+new_core = record {
+  view = 0;
+  active = true;
+  low = 0;
+  floor = 0;
+  last = 0;
+  slot = λ place. None;
+  prepared = [];
+  pre_prepared = [];
+  new_view = None;
+  said = [];
+}
 
 -- the slots with this one at the place
 abbrev pub with_slot : (ℕ → Option Slot) → ℕ → Slot → ℕ → Option Slot
@@ -62,19 +79,31 @@ above low slots q = if nat_lt low q then slots q else None
 
 -- it accepts the digest at the place, and says so
 abbrev pub after_accept : Core → ℕ → List ℕ → Statement → Core
-after_accept s place digest x = record s { slot = with_slot s.slot place (accepted digest); last = max s.last place; said = x ∷ s.said }
+after_accept s place digest x = record s {
+  slot = with_slot s.slot place (accepted digest);
+  last = max s.last place;
+  said = x ∷ s.said;
+}
 
 -- the slot at the place is prepared, and it says COMMIT
 abbrev pub after_prepare : Core → ℕ → List ℕ → Core
-after_prepare s place digest = record s { slot = with_slot s.slot place (record { digest = digest; prepared = true; committed = false }); said = Commit s.view place digest ∷ s.said }
+after_prepare s place digest = record s {
+  slot = with_slot s.slot place (prepared_slot digest);
+  said = Commit s.view place digest ∷ s.said;
+}
 
 -- the slot at the place is committed
 abbrev pub after_commit : Core → ℕ → List ℕ → Core
-after_commit s place digest = record s { slot = with_slot s.slot place (record { digest = digest; prepared = true; committed = true }) }
+after_commit s place digest = record s { slot = with_slot s.slot place (committed_slot digest) }
 
 -- the low mark rises, and what it keeps of earlier views is trimmed to these rows
 abbrev pub after_lower : Core → ℕ → List PRow → List QRow → Core
-after_lower s low prepared pre_prepared = record s { low = low; slot = above low s.slot; prepared = prepared; pre_prepared = pre_prepared }
+after_lower s low prepared pre_prepared = record s {
+  low = low;
+  slot = above low s.slot;
+  prepared = prepared;
+  pre_prepared = pre_prepared;
+}
 
 -- what is left of rows that are trimmed to a low mark: old rows alone, and of the prepared set all above the mark
 pub record IsTrimmed (s : Core) (low : ℕ) (prepared : List PRow) (pre_prepared : List QRow) : Type 0 where
@@ -84,7 +113,13 @@ pub record IsTrimmed (s : Core) (low : ℕ) (prepared : List PRow) (pre_prepared
 
 -- what it reports as it moves to a view
 abbrev pub report_of : Core → ℕ → List Checkpoint → List PRow → List QRow → ViewChange
-report_of s view checkpoints prepared pre_prepared = record { view = view; low = s.low; checkpoints = checkpoints; prepared = prepared; pre_prepared = pre_prepared }
+report_of s view checkpoints prepared pre_prepared = record {
+  view = view;
+  low = s.low;
+  checkpoints = checkpoints;
+  prepared = prepared;
+  pre_prepared = pre_prepared;
+}
 
 -- it moves to a view: it takes part in nothing until it enters, and says what it reports
 abbrev pub after_move : Core → ℕ → List Checkpoint → List PRow → List QRow → Core
@@ -101,7 +136,9 @@ after_move s view checkpoints prepared pre_prepared = record s {
 
 -- a row that stands for a prepared slot, with the view that it leaves
 abbrev pub IsPreparedBy : Core → PRow → Type 0
-IsPreparedBy s r = (slot : Slot) × (s.slot r.place ≡ Some slot) × (slot.prepared ≡ true) × (r.digest ≡ slot.digest) × (r.view ≡ s.view)
+IsPreparedBy s r =
+    (slot : Slot) × (s.slot r.place ≡ Some slot) × (slot.prepared ≡ true) × (r.digest ≡ slot.digest)
+    × (r.view ≡ s.view)
 
 -- a digest that an older row has with this view, or that of an accepted slot with the view that it leaves
 abbrev pub IsSeenBy : Core → ℕ → Seen → Type 0
@@ -113,23 +150,38 @@ IsSeenBy s place seen =
 -- place, and it adds nothing else; and the pre-prepared set has what it had and the accepted slots, or less
 pub record IsNoted (s : Core) (prepared : List PRow) (pre_prepared : List QRow) : Type 0 where
   pub from : (r : PRow) → Contains prepared r → Contains s.prepared r ⊎ IsPreparedBy s r
-  pub slots : (place : ℕ) (slot : Slot) → s.slot place ≡ Some slot → slot.prepared ≡ true → (r : PRow) × Contains prepared r × (r.place ≡ place) × (r.view ≡ s.view)
-  pub no_earlier : (r : PRow) → Contains s.prepared r → (q : PRow) × Contains prepared q × (q.place ≡ r.place) × ((q.view ≡ r.view) ⊎ (q.view ≡ s.view))
+  pub slots :
+      (place : ℕ) (slot : Slot) → s.slot place ≡ Some slot → slot.prepared ≡ true
+      → (r : PRow) × Contains prepared r × (r.place ≡ place) × (r.view ≡ s.view)
+  pub no_earlier :
+      (r : PRow) → Contains s.prepared r
+      → (q : PRow) × Contains prepared q × (q.place ≡ r.place) × ((q.view ≡ r.view) ⊎ (q.view ≡ s.view))
   pub seen : (row : QRow) → Contains pre_prepared row → (e : Seen) → Contains row.digests e → IsSeenBy s row.place e
 
 -- it takes part in its view by this NEW_VIEW
 abbrev pub after_enter : Core → NewView → (ℕ → Option Slot) → ℕ → List Statement → Core
-after_enter s new slots last says = record s { active = true; floor = last_of new.choice; last = last; slot = slots; new_view = Some new; said = says ++ s.said }
+after_enter s new slots last says = record s {
+  active = true;
+  floor = last_of new.choice;
+  last = last;
+  slot = slots;
+  new_view = Some new;
+  said = says ++ s.said;
+}
 
 -- as it enters a view it accepts of the chosen digests those whose places are above its low mark, or fewer, and
 -- nothing else
 abbrev pub AcceptsChosen : Core → NewView → (ℕ → Option Slot) → ℕ → Type 0
-AcceptsChosen s new slots last = (place : ℕ) (slot : Slot) → slots place ≡ Some slot → (s.low < place) × (place ≤ last) × Gives new.choice place slot.digest × (slot ≡ accepted slot.digest)
+AcceptsChosen s new slots last =
+    (place : ℕ) (slot : Slot) → slots place ≡ Some slot
+    → (s.low < place) × (place ≤ last) × Gives new.choice place slot.digest × (slot ≡ accepted slot.digest)
 
 -- a backup says PREPARE of each chosen digest that it accepts, and of nothing else
 pub record PreparesChosen (s : Core) (new : NewView) (slots : ℕ → Option Slot) (says : List Statement) : Type 0 where
   pub each : (place : ℕ) (slot : Slot) → slots place ≡ Some slot → Contains says (Prepare s.view place slot.digest)
-  pub only : (x : Statement) → Contains says x → (place : ℕ) × (digest : List ℕ) × (x ≡ Prepare s.view place digest) × Gives new.choice place digest
+  pub only :
+      (x : Statement) → Contains says x
+      → (place : ℕ) × (digest : List ℕ) × (x ≡ Prepare s.view place digest) × Gives new.choice place digest
 
 -- a valid view change for the view, one of those that occur, that can be heard as the replica's
 pub record IsHeard (g : Group) (sent : Sent) (view index : ℕ) (change : ViewChange) : Type 0 where
@@ -172,16 +224,19 @@ pub data Step (g : Group) (sent : Sent) (me : ℕ) : Core → Core → Type 0 wh
       → Step g sent me s (after_prepare s place digest)
   -- a quorum, itself in it, said COMMIT of what it prepared
   commit :
-      (s : Core) (place : ℕ) (digest : List ℕ) → s.active ≡ true → s.slot place ≡ Some (record { digest = digest; prepared = true; committed = false })
+      (s : Core) (place : ℕ) (digest : List ℕ) → s.active ≡ true
+      → s.slot place ≡ Some (prepared_slot digest)
       → AtLeast (size g) (quorum_of g.f) (λ k. Told g sent k (Commit s.view place digest))
       → Step g sent me s (after_commit s place digest)
   -- a checkpoint is stable: what is at or below its place is dropped
   lower :
-      (s : Core) (low : ℕ) (prepared : List PRow) (pre_prepared : List QRow) → s.low ≤ low → IsTrimmed s low prepared pre_prepared
+      (s : Core) (low : ℕ) (prepared : List PRow) (pre_prepared : List QRow) → s.low ≤ low
+      → IsTrimmed s low prepared pre_prepared
       → Step g sent me s (after_lower s low prepared pre_prepared)
   -- it moves to a later view
   move :
-      (s : Core) (view : ℕ) (checkpoints : List Checkpoint) (prepared : List PRow) (pre_prepared : List QRow) → s.view < view → IsNoted s prepared pre_prepared
+      (s : Core) (view : ℕ) (checkpoints : List Checkpoint) (prepared : List PRow) (pre_prepared : List QRow)
+      → s.view < view → IsNoted s prepared pre_prepared
       → Step g sent me s (after_move s view checkpoints prepared pre_prepared)
   -- it acknowledges a view change of its view that it heard
   ack :
@@ -189,13 +244,16 @@ pub data Step (g : Group) (sent : Sent) (me : ℕ) : Core → Core → Type 0 wh
       → Step g sent me s (record s { said = Ack s.view index (g.digest_of change) ∷ s.said })
   -- the primary of the view starts it from view changes that it heard
   offer :
-      (s : Core) (new : NewView) (heard : List Heard) (slots : ℕ → Option Slot) (last : ℕ) → s.active ≡ false → me ≡ primary g s.view → new.view ≡ s.view
-      → Agrees g.f new heard → ((h : Heard) → Contains heard h → (g.digest_of h.change ≡ h.digest) × IsHeard g sent s.view h.index h.change)
+      (s : Core) (new : NewView) (heard : List Heard) (slots : ℕ → Option Slot) (last : ℕ) → s.active ≡ false
+      → me ≡ primary g s.view → new.view ≡ s.view
+      → Agrees g.f new heard
+      → ((h : Heard) → Contains heard h → (g.digest_of h.change ≡ h.digest) × IsHeard g sent s.view h.index h.change)
       → AcceptsChosen s new slots last
       → Step g sent me s (after_enter s new slots last (say.NewView new ∷ []))
   -- a backup enters the view by the primary's NEW_VIEW, all of whose named view changes are had
   enter :
-      (s : Core) (new : NewView) (heard : List Heard) (slots : ℕ → Option Slot) (last : ℕ) (says : List Statement) → s.active ≡ false → (me ≡ primary g s.view → ⊥) → new.view ≡ s.view
+      (s : Core) (new : NewView) (heard : List Heard) (slots : ℕ → Option Slot) (last : ℕ) (says : List Statement)
+      → s.active ≡ false → (me ≡ primary g s.view → ⊥) → new.view ≡ s.view
       → Told g sent (primary g s.view) (say.NewView new)
       → Agrees g.f new heard → ((h : Heard) → Contains heard h → IsHad g sent s.view h)
       → AcceptsChosen s new slots last → PreparesChosen s new slots says

@@ -7,6 +7,7 @@ use Rattle.pws_msg.specs.declared.changes.Checkpoint.{Checkpoint}
 use Rattle.pws_msg.specs.declared.changes.PRow.{PRow}
 use Rattle.pws_msg.specs.declared.changes.QRow.{QRow}
 use Rattle.pws_msg.specs.declared.changes.Seen.{Seen}
+use Rattle.pws_msg.specs.declared.changes.Named.{Named}
 use Rattle.pws_msg.specs.declared.changes.ViewChange.{ViewChange}
 use Rattle.pws_msg.specs.declared.changes.NewView.{NewView}
 use Rattle.pws_safety.specs.Statement as say
@@ -33,7 +34,13 @@ pre_prepared_row = record { place = 1; digests = seen_digest ∷ [] }
 
 -- what a replica reports as it moves to a view, having prepared the digest at place 1 in view 0
 abbrev pub example_report : ℕ → ViewChange
-example_report view = record { view = view; low = 0; checkpoints = first_checkpoint ∷ []; prepared = prepared_row ∷ []; pre_prepared = pre_prepared_row ∷ [] }
+example_report view = record {
+  view = view;
+  low = 0;
+  checkpoints = first_checkpoint ∷ [];
+  prepared = prepared_row ∷ [];
+  pre_prepared = pre_prepared_row ∷ [];
+}
 
 -- whether two lists are the same, item by item
 abbrev pub same_items : {X : Type 0} → (X → X → Bool) → List X → List X → Bool
@@ -65,17 +72,26 @@ same_change a b =
 
 -- the group, where view changes have these digests, and these occur
 abbrev pub example_group : (ViewChange → List ℕ) → (ViewChange → Bool) → Group
-example_group digest_of occurs = record { f = 1; compromised = λ i. i == 3; digest_of = digest_of; occurs = occurs; backed = λ digest. true }
+example_group digest_of occurs = record {
+  f = 1;
+  compromised = λ i. i == 3;
+  digest_of = digest_of;
+  occurs = occurs;
+  backed = λ digest. true;
+}
 
 -- where the report of view 1 alone occurs, whatever its digest
 abbrev pub witness_group : (ViewChange → List ℕ) → Group
 witness_group digest_of = example_group digest_of (same_change (example_report 1))
 
+abbrev pub named_by : ℕ → List ℕ → Named
+named_by index digest = record { index = index; digest = digest }
+
 -- the NEW_VIEW of view 1 on the reports of replicas 0, 1 and 2, which keeps the digest at place 1
 abbrev pub example_new_view : (ViewChange → List ℕ) → NewView
 example_new_view digest_of = record {
   view = 1;
-  named = record { index = 0; digest = digest_of (example_report 1) } ∷ record { index = 1; digest = digest_of (example_report 1) } ∷ record { index = 2; digest = digest_of (example_report 1) } ∷ [];
+  named = named_by 0 (digest_of (example_report 1)) ∷ named_by 1 (digest_of (example_report 1)) ∷ named_by 2 (digest_of (example_report 1)) ∷ [];
   choice = record { place = 0; digest = first_checkpoint.digest; chosen = example_digest ∷ [] };
 }
 
@@ -85,7 +101,12 @@ WitnessIsTrusted = (digest_of : ViewChange → List ℕ) → IsTrusted (witness_
 
 -- it can settle a digest in view 0
 abbrev pub SettlesInViewZero : Type 0
-SettlesInViewZero = (digest_of : ViewChange → List ℕ) → (cores : ℕ → Core) × (sent : Sent) × Reached (witness_group digest_of) cores sent × IsSettled (witness_group digest_of) sent 0 1 example_digest
+SettlesInViewZero =
+    (digest_of : ViewChange → List ℕ)
+    → (cores : ℕ → Core)
+    × (sent : Sent)
+    × Reached (witness_group digest_of) cores sent
+    × IsSettled (witness_group digest_of) sent 0 1 example_digest
 
 -- it can then go to view 1 by that NEW_VIEW, and settle the same digest there
 abbrev pub KeepsInViewOne : Type 0
