@@ -99,7 +99,7 @@ within f changes c place d v valid choice above each =
     let t = and_parts (low r.0) (covers place d v r.0) r.2 in
     let near = covers_near place d v r.0 r.1 t.1 in
     let by = leb-true _ _ t.0 in
-    let top = below_highest place changes (any_more (λ h. low h && covers place d v h) (λ h. list_any (λ r. nat_le place r.place) h.change.prepared) changes (λ h k. covers_named place d v h (and_parts _ _ k).1) some) in
+    let top : place ≤ highest_place changes = below_highest place changes (any_more (λ h. low h && covers place d v h) (λ h. list_any (λ r. nat_le place r.place) h.change.prepared) changes (λ h k. covers_named place d v h (and_parts (low h) (covers place d v h) k).1) some) in
     let last = choice.last in
     omega arith
 

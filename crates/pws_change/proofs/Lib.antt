@@ -3,6 +3,10 @@ pub mod Counted
 pub mod Covered
 pub mod Decided
 pub mod Found
+pub mod Noted
 pub mod Orders
+pub mod Placed
 pub mod Rises
+pub mod Sorted
 pub mod Unique
+pub mod Witnessed

@@ -4,5 +4,6 @@ pub mod Changes
 pub mod Choices
 pub mod Laws
 pub mod Rising
+pub mod Rows
 pub mod Sets
 pub mod Valid

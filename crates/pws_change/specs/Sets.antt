@@ -29,11 +29,8 @@ PrePrepared = FinMap nat_cmp Digests
 abbrev pub prepared_code : Coded Prepared
 prepared_code = finite.code coded_ℕ (coded× (coded_list coded_ℕ) coded_ℕ)
 
-abbrev pub digests_code : Coded Digests
-digests_code = finite.code (coded_list coded_ℕ) coded_ℕ
-
 abbrev pub pre_prepared_code : Coded PrePrepared
-pre_prepared_code = finite.code coded_ℕ digests_code
+pre_prepared_code = finite.code coded_ℕ (finite.code (coded_list coded_ℕ) coded_ℕ)
 
 -- the rows of a prepared set, by rising place
 abbrev pub p_rows : Prepared → List PRow

@@ -1,4 +1,15 @@
 //! What a new view keeps of the earlier ones.
+//!
+//! - `prepared` and `pre_prepared` are the sets `PSet` and `QSet`: what a replica prepared and pre-prepared in earlier
+//!   views, as finite maps, with the rows that its view change holds.
+//! - `heard` has a view change as it was heard. `valid` tells which are valid.
+//! - `choices` has `choose`: what a list of view changes decides, a `Decision`. `counts` counts what the changes say of a
+//!   place, and `search` finds the best checkpoint and the best entry among those that enough of them bear out.
+//! - `agreements` has `agrees`: whether a new view is what the changes that it names decide.
+//! - `laws` states what follows from the definition of the choice alone.
+//!
+//! The one contract that all above rely on: of each list of view changes exactly one decision meets the definition of the
+//! choice, a count over the whole list, and `choose` gives it. docs/PROTOCOL.md tells the rule in words.
 #![tactic(auto)]
 
 pub mod agreements;
@@ -8,5 +19,7 @@ pub mod decisions;
 pub mod digests;
 pub mod heard;
 pub mod laws;
+pub mod pre_prepared;
+pub mod prepared;
 pub mod search;
 pub mod valid;
