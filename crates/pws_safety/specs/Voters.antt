@@ -222,7 +222,7 @@ pub data Step (g : Group) (sent : Sent) (me : ℕ) : Core → Core → Type 0 wh
       (s : Core) (place : ℕ) (digest : List ℕ) → s.active ≡ true → s.slot place ≡ Some (accepted digest)
       → AtLeast (size g) (2 * g.f) (λ k. (k ≡ primary g s.view → ⊥) × Told g sent k (Prepare s.view place digest))
       → Step g sent me s (after_prepare s place digest)
-  -- a quorum, itself in it, said COMMIT of what it prepared
+  -- a quorum, maybe itself in it, said COMMIT of what it prepared
   commit :
       (s : Core) (place : ℕ) (digest : List ℕ) → s.active ≡ true
       → s.slot place ≡ Some (prepared_slot digest)
