@@ -15,7 +15,7 @@ use Rattle.pws_safety.specs.Voters.{Slot, Core, new_core, AcceptsChosen, Prepare
 use Rattle.pws_safety.specs.Kept.{Stood, TellsTrue, HasGrounds, HasReason, Keeps, GroupKeeps}
 use Rattle.pws_safety.specs.Facts.{OneVoicePerView, CommitHasQuorum, ReportsItsCommits, StandsOnAChoice}
 use Rattle.pws_safety.specs.Runs.{Reached, start, step, again, IsTrusted, with_core}
-use Rattle.pws_safety.specs.Agreement.{RepeatsKeep, MoreIsKept, HadIsBehind, CommittedIsSettled, StepsKeep, KeptGivesFacts, RunsKeep}
+use Rattle.pws_safety.specs.Agreement.{RepeatsKeep, MoreIsKept, HadIsBehind, CommittedIsSettled, SlotsKeepTheChoice, StepsKeep, KeptGivesFacts, RunsKeep}
 use Rattle.pws_safety.proofs.Members.{nowhere, here, first_or_rest}
 use Rattle.pws_safety.proofs.Counted.{at_least_weaker}
 use Rattle.pws_safety.proofs.Slots.{none_some, prepare_pledge, propose_pledge}
@@ -338,3 +338,8 @@ had_is_behind g cores sent new heard trusted kept told agrees had =
 
 pub committed_is_settled : CommittedIsSettled
 committed_is_settled g cores sent i p slot sound kept ci at committed = quorum_settles g sent (cores i).view p slot.digest sound ((kept.each i ci).slot_quorum p slot at committed)
+
+pub slots_keep_the_choice : SlotsKeepTheChoice
+slots_keep_the_choice g cores sent i p slot kept ci at low =
+    let l = kept.each i ci in
+    elim (l.in_view p slot.digest (l.slot_stood p slot at)) [ inl a ↦ a.1 | inr a ↦ absurd (omega (arith, a.0, low)) ]

@@ -1,6 +1,6 @@
 -- Agreement: what is settled at a place stays, in every later view, whatever compromised replicas say and the network
 -- does.
-use Rattle.std.specs.Prelude.{ℕ, ◌≡◌, ◌<◌, Bool, true, List, Some}
+use Rattle.std.specs.Prelude.{ℕ, ◌≡◌, ◌<◌, ◌≤◌, Bool, true, List, Some}
 use Rattle.std.specs.List.{Contains}
 use Rattle.pws_base.specs.Shapes.{quorum_of}
 use Rattle.pws_msg.specs.declared.changes.ViewChange.{ViewChange}
@@ -11,7 +11,7 @@ use Rattle.pws_change.specs.Choices.{null_digest}
 use Rattle.pws_safety.specs.Replicas.{AtLeast, IsSound}
 use Rattle.pws_safety.specs.Statement.{Commit}
 use Rattle.pws_safety.specs.Statement as say
-use Rattle.pws_safety.specs.Statements.{Group, Sent, Told, StandsFor, IsSettled, IsCorrect, size, primary}
+use Rattle.pws_safety.specs.Statements.{Group, Sent, Told, Gives, StandsFor, IsSettled, IsCorrect, size, primary}
 use Rattle.pws_safety.specs.Voters.{Slot, Core, IsHad, Step}
 use Rattle.pws_safety.specs.Kept.{IsBehind, GroupKeeps}
 use Rattle.pws_safety.specs.Facts.{Facts}
@@ -82,6 +82,14 @@ CommittedIsSettled =
     (g : Group) (cores : ℕ → Core) (sent : Sent) (i place : ℕ) (slot : Slot) → IsSound g.f g.compromised
     → GroupKeeps g cores sent → IsCorrect g i → (cores i).slot place ≡ Some slot → slot.committed ≡ true
     → IsSettled g sent (cores i).view place slot.digest
+
+-- under the invariant, a slot of a correct replica at or below its floor has the digest that is given there by the
+-- NEW_VIEW by which it entered its view
+abbrev pub SlotsKeepTheChoice : Type 0
+SlotsKeepTheChoice =
+    (g : Group) (cores : ℕ → Core) (sent : Sent) (i place : ℕ) (slot : Slot) → GroupKeeps g cores sent → IsCorrect g i
+    → (cores i).slot place ≡ Some slot → place ≤ (cores i).floor
+    → (new : NewView) × ((cores i).new_view ≡ Some new) × Gives new.choice place slot.digest
 
 -- the invariant gives the facts
 abbrev pub KeptGivesFacts : Type 0

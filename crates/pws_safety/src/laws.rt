@@ -1,7 +1,7 @@
 //! Why agreement holds: each law is the contract of a function that does nothing.
 
 ghost use Rattle.pws_safety.specs.Replicas.{QuorumsMeet, QuorumMeetsWeak, WeakHasCorrect, SendersAreDistinct};
-ghost use Rattle.pws_safety.specs.Agreement.{FactsGiveAgreement, QuorumSettles, StepsKeep, RepeatsKeep, MoreIsKept, HadIsBehind, CommittedIsSettled, KeptGivesFacts, RunsKeep, RunsAgree};
+ghost use Rattle.pws_safety.specs.Agreement.{FactsGiveAgreement, QuorumSettles, StepsKeep, RepeatsKeep, MoreIsKept, HadIsBehind, CommittedIsSettled, SlotsKeepTheChoice, KeptGivesFacts, RunsKeep, RunsAgree};
 
 use pws_change::laws::what_is_covered_is_kept;
 
@@ -51,6 +51,11 @@ pub fn had_is_behind()
 /// What a correct replica committed is settled.
 pub fn committed_is_settled()
     ensures { CommittedIsSettled }
+{}
+
+/// A slot of a correct replica at or below its floor has the digest that was chosen there.
+pub fn slots_keep_the_choice()
+    ensures { SlotsKeepTheChoice }
 {}
 
 /// The invariant gives the facts.
