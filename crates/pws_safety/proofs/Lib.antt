@@ -1,0 +1,17 @@
+pub mod Members
+pub mod Counted
+pub mod Senders
+pub mod Views
+pub mod Slots
+pub mod Keeping
+pub mod Behind
+pub mod Next
+pub mod Group
+pub mod FirstRun
+pub mod Reports
+pub mod SecondRun
+pub mod Ruled
+pub mod SecondVotes
+pub mod Forgetful
+pub mod LowFloor
+pub mod Unwitnessed

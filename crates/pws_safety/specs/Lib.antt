@@ -1,0 +1,10 @@
+pub mod Agreement
+pub mod Counterexamples
+pub mod Facts
+pub mod Kept
+pub mod Replicas
+pub mod Runs
+pub mod Statement
+pub mod Statements
+pub mod Voters
+pub mod Witnesses
