@@ -1,6 +1,7 @@
 pub mod Calls
 pub mod Counts
 pub mod Cursors
+pub mod Fields
 pub mod Padded
 pub mod Shapes
 pub mod Streams

@@ -15,6 +15,7 @@
 
 pub mod bytes;
 pub mod cursors;
+pub mod fields;
 pub mod lists;
 pub mod memory;
 pub mod memory_streams;

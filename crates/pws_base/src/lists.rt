@@ -4,6 +4,7 @@ ghost use Rattle.std.specs.Prelude.{◌≡◌, ◌↔◌, [], ◌∷◌, ◌++�
 
 use crate::memory::Memory;
 use std::alloc::Global;
+use std::fmt;
 use std::marker::Model;
 
 /// A value of which a copy can be made that is equal to it.
@@ -101,5 +102,29 @@ impl<T: ExactCopy> ExactCopy for Sequence<T> {
             items.push(item.copy(alloc)?)?;
         }
         Ok(Sequence { items })
+    }
+}
+
+impl ExactCopy for [u8; 32] {
+    fn copy(&self, _alloc: Global) -> Result<[u8; 32], Memory> {
+        Ok(*self)
+    }
+}
+
+impl ExactCopy for u32 {
+    fn copy(&self, _alloc: Global) -> Result<u32, Memory> {
+        Ok(*self)
+    }
+}
+
+impl<A: Copy + Drop, B: Copy + Drop> ExactCopy for (A, B) {
+    fn copy(&self, _alloc: Global) -> Result<(A, B), Memory> {
+        Ok(*self)
+    }
+}
+
+impl<T: fmt::Debug> fmt::Debug for Sequence<T> {
+    fn fmt<W: fmt::Write>(&self, f: &mut fmt::Formatter<W>) -> fmt::Result {
+        fmt::Debug::fmt(&self.items, f)
     }
 }

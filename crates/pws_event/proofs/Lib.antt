@@ -2,3 +2,8 @@ pub mod Grown
 pub mod Kept
 pub mod Latest
 pub mod Once
+pub mod Waiting
+pub mod Preserved
+pub mod Counted
+pub mod Asked
+pub mod Outgoing

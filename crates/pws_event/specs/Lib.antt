@@ -1,7 +1,12 @@
+pub mod Answers
 pub mod Counters
 pub mod Effects
+pub mod EventFields
 pub mod Events
+pub mod Histories
 pub mod Laws
 pub mod Lists
+pub mod Readings
 pub mod Requests
 pub mod Slots
+pub mod Times

@@ -3,7 +3,7 @@ use Rattle.std.specs.Prelude.{ℕ, ◌+◌, ◌-◌, ◌^◌, ◌==◌, Bool, na
 use Rattle.std.specs.List.{filter_map}
 use Rattle.std.specs.Option.{option_map_or, option_and_then, option_map}
 use Rattle.pws_event.specs.Events.{event_text, digest_of, chain_of}
-use Rattle.pws_event.specs.Effects.{effects}
+use Rattle.pws_event.specs.Effects.{Acts, effects}
 use Rattle.pws_event.specs.declared.events.Event.{Event}
 use Rattle.pws_event.specs.declared.lists.Pushed.{Pushed}
 use Rattle.pws_event.specs.declared.lists.Pushed.TheVariants as pushed
@@ -56,6 +56,7 @@ chain_at places place = if nat_le place (length places) then Some (chain_of (tak
 abbrev pub whole_events : List PlacedEvent → List Event
 whole_events places = filter_map (λ p. p.event) places
 
--- the events of these places that take effect in the group me of this layout
-abbrev pub effects_in : ℕ → List ℕ → List PlacedEvent → List Event
-effects_in me layout places = effects me layout (whole_events places)
+-- the events of these places that take effect in the group me of this layout, whose service calls and asks what acts
+-- tells
+abbrev pub effects_in : ℕ → List ℕ → (List Event → Acts) → List PlacedEvent → List Event
+effects_in me layout acts places = effects me layout acts (whole_events places)

@@ -2,8 +2,11 @@
 
 ghost use Rattle.std.specs.Prelude.{◌≡◌, ◌++◌, IfOk, OnOk};
 ghost use Rattle.sha2.specs.Sha256.{sha256};
-ghost use Rattle.pws_event.specs.Events.{request_text, event_text, digest_of};
+ghost use Rattle.std.specs.List.{flat_map};
+ghost use Rattle.pws_event.specs.Events.{request_text, reply_text, abort_text, reading_text, clock_text, share_text, random_text, event_text, digest_of};
 
+use crate::answers::{Abort, Reply};
+use crate::readings::{Clock, Random, Reading, Share};
 use crate::requests::Request;
 use pws_base::lists::ExactCopy;
 use pws_base::memory::Memory;
@@ -12,13 +15,21 @@ use pws_base::writers::Writer;
 use sha2::{Digest as _, Sha256};
 use std::alloc::Global;
 
-/// What a group agrees on at one place: nothing, or a request of another group.
+/// What a group agrees on at one place.
 #[derive(Debug, Drop)]
 pub enum Event {
     /// Nothing: it keeps its place and changes nothing.
     Null,
     /// A request of another group.
     Request(Request),
+    /// The reply of a called group.
+    Reply(Reply),
+    /// The end of a call that wasn't answered in time.
+    Abort(Abort),
+    /// Readings of the clock, which answer an ask for the time.
+    Clock(Clock),
+    /// Shares of a seed, which answer an ask for one.
+    Random(Random),
 }
 
 impl ExactCopy for Event {
@@ -26,6 +37,10 @@ impl ExactCopy for Event {
         match self {
             Event::Null => Ok(Event::Null),
             Event::Request(request) => Ok(Event::Request(request.copy(alloc)?)),
+            Event::Reply(reply) => Ok(Event::Reply(reply.copy(alloc)?)),
+            Event::Abort(abort) => Ok(Event::Abort(abort.copy(alloc)?)),
+            Event::Clock(clock) => Ok(Event::Clock(clock.copy(alloc)?)),
+            Event::Random(random) => Ok(Event::Random(random.copy(alloc)?)),
         }
     }
 }
@@ -43,6 +58,85 @@ fn put_request(text: &mut Writer, request: &Request) -> Result<(), Memory>
     text.put_bytes(body)
 }
 
+/// Writes the text of a reply.
+fn put_reply(text: &mut Writer, reply: &Reply) -> Result<(), Memory>
+    ensures { OnOk result (text.new ≡ text.old ++ reply_text reply.now) }
+{
+    let body = reply.body();
+    text.put_u8(2)?;
+    text.put_u8(reply.called())?;
+    text.put_u32(reply.number())?;
+    text.put_u32(body.len() as u32)?;
+    text.put_bytes(body)
+}
+
+/// Writes the text of an abort.
+fn put_abort(text: &mut Writer, abort: &Abort) -> Result<(), Memory>
+    ensures { OnOk result (text.new ≡ text.old ++ abort_text abort.now) }
+{
+    text.put_u8(3)?;
+    text.put_u8(abort.called())?;
+    text.put_u32(abort.number())
+}
+
+/// Writes a reading.
+fn put_reading(text: &mut Writer, reading: &Reading) -> Result<(), Memory>
+    ensures { OnOk result (text.new ≡ text.old ++ reading_text reading.now) }
+{
+    text.put_u8(reading.index)?;
+    text.put_u64(reading.ms)
+}
+
+/// Writes readings, one after the other.
+fn put_readings(text: &mut Writer, readings: &[Reading]) -> Result<(), Memory>
+    ensures { OnOk result (text.new ≡ text.old ++ flat_map reading_text readings.now) }
+{
+    for reading in readings.iter() {
+        put_reading(text, reading)?;
+    }
+    Ok(())
+}
+
+/// Writes the text of readings of the clock.
+fn put_clock(text: &mut Writer, clock: &Clock) -> Result<(), Memory>
+    ensures { OnOk result (text.new ≡ text.old ++ clock_text clock.now) }
+{
+    let readings = clock.readings();
+    text.put_u8(4)?;
+    text.put_u32(clock.ask())?;
+    text.put_u8(readings.len() as u8)?;
+    put_readings(text, readings)
+}
+
+/// Writes a share.
+fn put_share(text: &mut Writer, share: &Share) -> Result<(), Memory>
+    ensures { OnOk result (text.new ≡ text.old ++ share_text share.now) }
+{
+    text.put_u8(share.index)?;
+    text.put_bytes(share.bytes.as_slice())
+}
+
+/// Writes shares, one after the other.
+fn put_shares(text: &mut Writer, shares: &[Share]) -> Result<(), Memory>
+    ensures { OnOk result (text.new ≡ text.old ++ flat_map share_text shares.now) }
+{
+    for share in shares.iter() {
+        put_share(text, share)?;
+    }
+    Ok(())
+}
+
+/// Writes the text of shares of a seed.
+fn put_random(text: &mut Writer, random: &Random) -> Result<(), Memory>
+    ensures { OnOk result (text.new ≡ text.old ++ random_text random.now) }
+{
+    let shares = random.shares();
+    text.put_u8(5)?;
+    text.put_u32(random.ask())?;
+    text.put_u8(shares.len() as u8)?;
+    put_shares(text, shares)
+}
+
 /// The text of an event, by the table of events in docs/FORMATS.md.
 ///
 /// # Errors
@@ -55,6 +149,10 @@ pub fn write_event(alloc: Global, event: &Event) -> Result<Vec<u8>, Memory>
     match event {
         Event::Null => text.put_u8(0)?,
         Event::Request(request) => put_request(&mut text, request)?,
+        Event::Reply(reply) => put_reply(&mut text, reply)?,
+        Event::Abort(abort) => put_abort(&mut text, abort)?,
+        Event::Clock(clock) => put_clock(&mut text, clock)?,
+        Event::Random(random) => put_random(&mut text, random)?,
     }
     Ok(text.into_bytes().into_vec())
 }

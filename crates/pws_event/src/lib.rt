@@ -12,8 +12,11 @@
 //! every vote above stands on this rule.
 #![tactic(auto)]
 
+pub mod answers;
 pub mod effects;
 pub mod events;
 pub mod laws;
 pub mod lists;
+pub mod readings;
 pub mod requests;
+pub mod times;

@@ -1,6 +1,7 @@
 -- Where a run is done, each request takes effect at one place at most.
 use Rattle.std.proofs.Common.{◌≡◌, ℕ, ◌∙◌, List, Option, Result, Ok, Err, IfOk, ap, subst}
 use Rattle.pws_base.specs.Whole.{Grows}
+use Rattle.pws_event.specs.Effects.{silent}
 use Rattle.pws_event.specs.Laws.{EffectsAreOnce}
 use Rattle.pws_event.specs.Lists.{PlacedEvent}
 use Rattle.pws_base.specs.declared.memory.Memory.{Memory}
@@ -19,5 +20,5 @@ reports_once held now text grows report law = record {
   places = report.0;
   written = subst (Grows held now) report.1 grows;
   taken = report.2;
-  once = law 1 two_groups report.0;
+  once = law 1 two_groups silent report.0;
 }

@@ -9,7 +9,7 @@ use Rattle.std.proofs.Math.Seq.{take-append_seam}
 use Rattle.pws_base.specs.Texts.{u32_text}
 use Rattle.pws_event.specs.Requests.{RequestFields, IsRequest}
 use Rattle.pws_event.specs.Events.{event_text, digest_of}
-use Rattle.pws_event.specs.Effects.{takes_effect}
+use Rattle.pws_event.specs.Effects.{silent, no_acts, takes_effect}
 use Rattle.pws_event.specs.Lists.{PlacedEvent, event_at, placed, text_length, kept_bytes, would_pass, effects_in, digest_at}
 use Rattle.pws_event.specs.Laws.{TakesEffectAt}
 use Rattle.pws_event.specs.declared.events.Event.{Event}
@@ -81,24 +81,24 @@ last_digest places more p place m e =
     let k : length places + 1 - 1 ≡ length places = omega arith in
     rw (size, m, z, k) (ap (λ (o : Option PlacedEvent). option_map (λ (q : PlacedEvent). q.digest) o) (slice_get_last places p))
 
-pub all_more : (me : ℕ) (layout : List ℕ) (places more : List PlacedEvent) (p : PlacedEvent) (r : RequestFields) → more ≡ places ++ p ∷ [] → p.event ≡ Some (event.Request r) → p.digest ≡ digest_of (event.Request r) → takes_effect me layout (effects_in me layout places) (event.Request r) ≡ true → AllTakeEffect me layout places → AllTakeEffect me layout more
+pub all_more : (me : ℕ) (layout : List ℕ) (places more : List PlacedEvent) (p : PlacedEvent) (r : RequestFields) → more ≡ places ++ p ∷ [] → p.event ≡ Some (event.Request r) → p.digest ≡ digest_of (event.Request r) → takes_effect me layout no_acts (effects_in me layout silent places) (event.Request r) ≡ true → AllTakeEffect me layout places → AllTakeEffect me layout more
 all_more me layout places more p r m e d t all place h k =
     let count : length more ≡ length places + 1 = ap length m ∙ length-append places (p ∷ []) in
     elim (cases_lt place (length more)) [
       | inl below ↦
           let old = all place h (omega (arith, count, below)) in
           let front : take (place - 1) more ≡ take (place - 1) places = ap (take (place - 1)) m ∙ take-append-le (place - 1) places (p ∷ []) (omega (arith, count, below)) in
-          let stands : TakesEffectAt me layout more place old.0 = record {
+          let stands : TakesEffectAt me layout silent more place old.0 = record {
             stands = ap (λ xs. event_at xs place) m ∙ (front_event places p place h (omega (arith, count, below)) ∙ old.1.stands);
-            takes = ap (λ xs. takes_effect me layout (effects_in me layout xs) (event.Request old.0)) front ∙ old.1.takes;
+            takes = ap (λ xs. takes_effect me layout no_acts (effects_in me layout silent xs) (event.Request old.0)) front ∙ old.1.takes;
           } in
           (old.0, stands, ap (λ xs. digest_at xs place) m ∙ (front_digest places p place h (omega (arith, count, below)) ∙ old.2))
       | inr top ↦
           let last : place ≡ length more = omega (arith, k, top) in
           let whole : take (place - 1) more ≡ places = ap (λ n. take n more) (omega (arith, count, last)) ∙ (ap (take (length places)) m ∙ take-append_seam places (p ∷ [])) in
-          let stands : TakesEffectAt me layout more place r = record {
+          let stands : TakesEffectAt me layout silent more place r = record {
             stands = last_event places more p place m last ∙ e;
-            takes = ap (λ xs. takes_effect me layout (effects_in me layout xs) (event.Request r)) whole ∙ t;
+            takes = ap (λ xs. takes_effect me layout no_acts (effects_in me layout silent xs) (event.Request r)) whole ∙ t;
           } in
           (r, stands, last_digest places more p place m last ∙ ap Some d)
     ]

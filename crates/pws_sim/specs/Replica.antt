@@ -1,9 +1,9 @@
--- One replica of group 1 that hears the requests of group 0; this project's own rule.
+-- One replica of group 1 that hears the requests of group 0, and whose service calls and asks nothing; this project's own rule.
 use Rattle.std.specs.Prelude.{ℕ, zero, suc, ◌+◌, ◌&&◌, ◌==◌, nat_lt, nat_le, is_none, Bool, if◌then◌else◌, List, [], ◌∷◌, ◌++◌, length, find, Option, Some, None}
 use Rattle.std.specs.List.{fold}
 use Rattle.pws_event.specs.Requests.{RequestFields}
 use Rattle.pws_event.specs.declared.events.Event.TheVariants as event
-use Rattle.pws_event.specs.Effects.{last_of, takes_effect}
+use Rattle.pws_event.specs.Effects.{last_of, no_acts, silent, takes_effect}
 use Rattle.pws_event.specs.Lists.{PlacedEvent, placed, effects_in}
 
 -- the requests that were kept, in the order of their coming, and the places of the event list
@@ -20,7 +20,7 @@ start = record { kept = []; places = [] }
 
 -- the number of the last request of group 0 that took effect
 abbrev pub last_in : List PlacedEvent → ℕ
-last_in places = last_of 0 (effects_in 1 two_groups places)
+last_in places = last_of 0 (effects_in 1 two_groups silent places)
 
 -- the kept request of this number
 abbrev pub kept_with : ℕ → List RequestFields → Option RequestFields
@@ -36,7 +36,7 @@ keep s r = if is_kept s r then record s { kept = s.kept ++ r ∷ [] } else s
 
 abbrev pub if_taken : List PlacedEvent → Option RequestFields → Option RequestFields
 if_taken places None = None
-if_taken places (Some r) = if takes_effect 1 two_groups (effects_in 1 two_groups places) (event.Request r) then Some r else None
+if_taken places (Some r) = if takes_effect 1 two_groups no_acts (effects_in 1 two_groups silent places) (event.Request r) then Some r else None
 
 -- the kept request of the next number, where it would take effect and the list has fewer than 32 places
 abbrev pub next_of : ReplicaState → Option RequestFields

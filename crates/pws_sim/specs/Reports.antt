@@ -11,12 +11,22 @@ use Rattle.pws_event.specs.declared.events.Event.TheVariants as event
 abbrev pub request_words : RequestFields → List ℕ
 request_words r = codes "request " ++ decimal r.caller ++ codes " " ++ decimal r.number ++ codes " taken"
 
--- what stands at a place, and that it took effect: a bare place and Null never do, and the requests of the replica's
--- list always do
+-- an answer to a call, or to an ask, that is void, since the replica calls and asks nothing
+abbrev pub call_words : List ℕ → ℕ → ℕ → List ℕ
+call_words kind called number = kind ++ codes " " ++ decimal called ++ codes " " ++ decimal number ++ codes " void"
+
+abbrev pub ask_words : List ℕ → ℕ → List ℕ
+ask_words kind ask = kind ++ codes " " ++ decimal ask ++ codes " void"
+
+-- what stands at a place, and whether it took effect: the requests of the replica's list always do, all else never
 abbrev pub what_of : Option Event → List ℕ
 what_of None = codes "bare void"
 what_of (Some event.Null) = codes "null void"
 what_of (Some (event.Request r)) = request_words r
+what_of (Some (event.Reply r)) = call_words (codes "reply") r.called r.number
+what_of (Some (event.Abort a)) = call_words (codes "abort") a.called a.number
+what_of (Some (event.Clock c)) = ask_words (codes "clock") c.ask
+what_of (Some (event.Random r)) = ask_words (codes "random") r.ask
 
 -- a place's number, what stands there, and its digest in hexadecimal
 abbrev pub place_line : ℕ → PlacedEvent → List ℕ

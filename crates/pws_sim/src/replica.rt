@@ -36,7 +36,7 @@ impl Model for Replica {
 ghost use Rattle.std.specs.Prelude.{◌≡◌, ◌<◌, ◌≤◌, ◌==◌, length, OnOk, IsTrue, None};
 ghost use Rattle.std.specs.Option.{option_copied};
 ghost use Rattle.pws_event.specs.declared.events.Event.{Event};
-ghost use Rattle.pws_event.specs.Effects.{takes_effect};
+ghost use Rattle.pws_event.specs.Effects.{no_acts, silent, takes_effect};
 ghost use Rattle.pws_event.specs.Lists.{effects_in};
 ghost use Rattle.pws_sim.specs.Once.{AllTakeEffect};
 ghost use Rattle.pws_sim.specs.Replica.{two_groups, start, last_in, kept_with, is_kept, keep, next_of, push, hear};
@@ -161,7 +161,7 @@ impl Replica {
     #[tactic(auto, unfolding(crate::specs::Replica::push))]
     fn push(&mut self, alloc: Global, request: Request) -> Result<(), Memory>
         requires room { length self.old.places < 32 }
-        requires takes { IsTrue (takes_effect 1 two_groups (effects_in 1 two_groups self.old.places) (Event.Request request)) }
+        requires takes { IsTrue (takes_effect 1 two_groups no_acts (effects_in 1 two_groups silent self.old.places) (Event.Request request)) }
         ensures { OnOk result (self.new ≡ push self.old request) }
     {
         // reading it shows that the request is in range

@@ -2,11 +2,11 @@
 
 ghost use Rattle.std.specs.Prelude.{◌≡◌, IfOk, string_bytes};
 ghost use Rattle.std.specs.Option.{option_copied};
-ghost use Rattle.pws_sim.specs.Reports.{request_words, what_of, place_line, report_of};
+ghost use Rattle.pws_sim.specs.Reports.{request_words, call_words, ask_words, what_of, place_line, report_of};
 
 use pws_base::bytes::Bytes;
 use pws_base::memory::Memory;
-use pws_base::shapes::Place;
+use pws_base::shapes::{GroupId, Number, Place};
 use pws_base::writers::Writer;
 use pws_event::events::Event;
 use pws_event::lists::EventList;
@@ -22,6 +22,20 @@ fn request_words(alloc: Global, request: &Request) -> Result<String, Memory>
     Ok(format!(in alloc; "request {caller} {number} taken")?)
 }
 
+/// The words for an answer to a call, which is void.
+fn call_words(alloc: Global, kind: &str, called: GroupId, number: Number) -> Result<String, Memory>
+    ensures { IfOk result (λ words. string_bytes words ≡ call_words kind.now called number) }
+{
+    Ok(format!(in alloc; "{kind} {called} {number} void")?)
+}
+
+/// The words for an answer to an ask, which is void.
+fn ask_words(alloc: Global, kind: &str, ask: u32) -> Result<String, Memory>
+    ensures { IfOk result (λ words. string_bytes words ≡ ask_words kind.now ask) }
+{
+    Ok(format!(in alloc; "{kind} {ask} void")?)
+}
+
 /// The words for what stands at a place, and whether it took effect.
 fn what_of(alloc: Global, event: Option<&Event>) -> Result<String, Memory>
     ensures { IfOk result (λ words. string_bytes words ≡ what_of (option_copied event.entry)) }
@@ -30,6 +44,10 @@ fn what_of(alloc: Global, event: Option<&Event>) -> Result<String, Memory>
         None => Ok(format!(in alloc; "bare void")?),
         Some(Event::Null) => Ok(format!(in alloc; "null void")?),
         Some(Event::Request(request)) => request_words(alloc, request),
+        Some(Event::Reply(reply)) => call_words(alloc, "reply", reply.called(), reply.number()),
+        Some(Event::Abort(abort)) => call_words(alloc, "abort", abort.called(), abort.number()),
+        Some(Event::Clock(clock)) => ask_words(alloc, "clock", clock.ask()),
+        Some(Event::Random(random)) => ask_words(alloc, "random", random.ask()),
     }
 }
 
