@@ -168,8 +168,8 @@ instructed s xs u acts c i k = record {
   halts = halted_at xs u acts c i k;
   goes_on = λ registers line stream. quiet_at xs u acts c k;
   waits = λ w. moded_at xs u acts c (mode.Waiting w) i k;
-  calls = λ d g ms n body e may. acted xs u c.mode c.asks acts _ refl (λ j. refl) (λ j. refl) tt k;
-  replies = λ key body has. replied_at xs u acts c key.group key.number _ k;
+  calls = λ d g ms n text body e may made. acted xs u c.mode c.asks acts _ refl (λ j. refl) (λ j. refl) tt k;
+  replies = λ key message text has. replied_at xs u acts c key.group key.number _ k;
   asks_clock = λ d few. asked_clock xs u c.mode d c.asks acts i few k;
   asks_seed = λ few. asked_seed xs u c.mode c.asks acts i few k;
 }

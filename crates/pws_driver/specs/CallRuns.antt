@@ -7,6 +7,7 @@ use Rattle.pws_event.specs.declared.events.Event.{Event}
 use Rattle.pws_driver.specs.declared.keys.Key.{Key}
 use Rattle.pws_driver.specs.declared.acts.Act.{Act}
 use Rattle.pws_driver.specs.declared.cores.Core.{Core}
+use Rattle.pws_driver.specs.Envelopes.{TextsFit}
 use Rattle.pws_driver.specs.Services.{Service}
 use Rattle.pws_driver.specs.Keys.{without}
 use Rattle.pws_driver.specs.Lawful.{is_answer, LawfulCalls}
@@ -31,28 +32,27 @@ quiet_at s xs acts c k = rw (append-nil acts) k
 halted_at : (s : Service) (xs : List Event) (acts : List Act) (c : Core) → KeptAt s xs acts c → Kept s xs acts (halted c)
 halted_at s xs acts c k = halted_kept s.me s.layout xs c.called c.pending acts k
 
-record MayParts (me count g n low size : ℕ) : Type 0 where
+record MayParts (me count g n low : ℕ) : Type 0 where
   group : g < count
   other : nat_eq g me ≡ false
   most : n ≤ 1000000
   window : n < low + 16
-  body : size ≤ 32768
 
-may_parts : (me count g n low size : ℕ) → (nat_lt g count && not (nat_eq g me) && nat_le n 1000000 && nat_lt n (low + 16) && nat_le size 32768) ≡ true → MayParts me count g n low size
-may_parts me count g n low size h = record { group = grind (arith, nat_tests); other = grind (arith, nat_tests); most = grind (arith, nat_tests); window = grind (arith, nat_tests); body = grind (arith, nat_tests) }
+may_parts : (me count g n low : ℕ) → (nat_lt g count && not (nat_eq g me) && nat_le n 1000000 && nat_lt n (low + 16)) ≡ true → MayParts me count g n low
+may_parts me count g n low h = record { group = grind (arith, nat_tests); other = grind (arith, nat_tests); most = grind (arith, nat_tests); window = grind (arith, nat_tests) }
 
-call_at : (s : Service) (xs : List Event) (acts : List Act) (c : Core) (d g ms n : ℕ) (body : List ℕ) → n ≡ slice_index c.called g + 1 → may_call s g n (low_of c g n) body ≡ true → KeptAt s xs acts c → Kept s xs acts (called_with c d g n (low_of c g n) body ms)
-call_at s xs acts c d g ms n body en h k =
-    let m = may_parts s.me (length s.layout) g n (low_of c g n) (length body) h in
-    call_kept s.me s.layout xs c.called c.pending acts (record { group = g; number = n }) (low_of c g n) body ms s.few en refl m.group m.other m.most m.window m.body k
+call_at : (s : Service) (xs : List Event) (acts : List Act) (c : Core) (d g ms n : ℕ) (body : List ℕ) → n ≡ slice_index c.called g + 1 → may_call s g n (low_of c g n) ≡ true → length body ≤ 32768 → KeptAt s xs acts c → Kept s xs acts (called_with c d g n (low_of c g n) body ms)
+call_at s xs acts c d g ms n body en h size k =
+    let m = may_parts s.me (length s.layout) g n (low_of c g n) h in
+    call_kept s.me s.layout xs c.called c.pending acts (record { group = g; number = n }) (low_of c g n) body ms s.few en refl m.group m.other m.most m.window size k
 
-instructed : (s : Service) (xs : List Event) (acts : List Act) (c : Core) → KeptAt s xs acts c → Instructed (Kept s xs acts) s c
-instructed s xs acts c k = record {
+instructed : (s : Service) (xs : List Event) (acts : List Act) (c : Core) → TextsFit s.words → KeptAt s xs acts c → Instructed (Kept s xs acts) s c
+instructed s xs acts c f k = record {
   halts = halted_at s xs acts c k;
   goes_on = λ registers line stream. quiet_at s xs acts c k;
   waits = λ w. quiet_at s xs acts c k;
-  calls = λ d g ms n body e may. call_at s xs acts c d g ms n body e may k;
-  replies = λ key body has. reply_kept s.me s.layout xs c.called c.pending acts key _ k;
+  calls = λ d g ms n text body e may made. call_at s xs acts c d g ms n body e may (f.call s.me (record { group = g; number = n }) text body made) k;
+  replies = λ key message text has. reply_kept s.me s.layout xs c.called c.pending acts key _ k;
   asks_clock = λ d few. ask_kept s.me s.layout xs c.called c.pending acts (c.asks + 1) k;
   asks_seed = λ few. seed_ask_kept s.me s.layout xs c.called c.pending acts (c.asks + 1) k;
 }
@@ -73,9 +73,9 @@ record KeptRun (s : Service) (xs : List Event) (c : Core) (untaken : List Event)
   calls : KeptAt s xs acts c
   within : (t : Event → Bool) → list_any t untaken ≡ true → list_any t xs ≡ true
 
-begin_at : (s : Service) (xs : List Event) (c : Core) (u : List Event) (acts : List Act) → is_ready c ≡ true → KeptRun s xs c u acts → KeptRun s xs (begin s c).core u (acts ++ (begin s c).acts)
-begin_at s xs c u acts h k =
-    record { calls = begin_holds (Kept s xs acts) s c (halted_at s xs acts c k.calls) (λ some. instructed s xs acts (counted c) k.calls); within = k.within }
+begin_at : (s : Service) (xs : List Event) (c : Core) (u : List Event) (acts : List Act) → TextsFit s.words → KeptRun s xs c u acts → KeptRun s xs (begin s c).core u (acts ++ (begin s c).acts)
+begin_at s xs c u acts f k =
+    record { calls = begin_holds (Kept s xs acts) s c (halted_at s xs acts c k.calls) (λ some. instructed s xs acts (counted c) f k.calls); within = k.within }
 
 takes_at : (s : Service) (xs : List Event) (c : Core) (u : List Event) (acts : List Act) (q : Picked) → first_of (wants c) u ≡ Some q → KeptRun s xs c u acts → KeptRun s xs (takes s c q.0).core q.1 (acts ++ (takes s c q.0).acts)
 takes_at s xs c u acts q e k =
@@ -97,12 +97,12 @@ fresh_kept s xs = record {
 }
 
 -- the calls of a script on any effects are lawful
-pub calls_lawful : (s : Service) (xs : List Event) → LawfulCalls s.me s.layout xs [] (acts_of s xs)
-calls_lawful s xs = (steps_hold (KeptRun s xs) s (enough xs) (fresh xs) (begin_at s xs) (takes_at s xs) (fresh_kept s xs)).calls.lawful
+pub calls_lawful : (s : Service) (xs : List Event) → TextsFit s.words → LawfulCalls s.me s.layout xs [] (acts_of s xs)
+calls_lawful s xs f = (steps_hold (KeptRun s xs) s (enough xs) (fresh xs) (λ c u acts h k. begin_at s xs c u acts f k) (takes_at s xs) (fresh_kept s xs)).calls.lawful
 
 -- the same, where the group and the layout are these
-pub calls_lawful_where : (s : Service) (me : ℕ) (layout : List ℕ) (xs : List Event) → (s.me ≡ me) × (s.layout ≡ layout) → LawfulCalls me layout xs [] (acts_of s xs)
-calls_lawful_where s me layout xs f =
+pub calls_lawful_where : (s : Service) (me : ℕ) (layout : List ℕ) (xs : List Event) → TextsFit s.words → (s.me ≡ me) × (s.layout ≡ layout) → LawfulCalls me layout xs [] (acts_of s xs)
+calls_lawful_where s me layout xs fit f =
     let P : ℕ → Type 0 = λ n. LawfulCalls n layout xs [] (acts_of s xs) in
     let Q : List ℕ → Type 0 = λ l. LawfulCalls s.me l xs [] (acts_of s xs) in
-    subst P f.0 (subst Q f.1 (calls_lawful s xs))
+    subst P f.0 (subst Q f.1 (calls_lawful s xs fit))

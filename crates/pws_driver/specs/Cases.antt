@@ -21,7 +21,7 @@ use Rattle.pws_driver.specs.Services.{Service}
 use Rattle.pws_driver.specs.Keys.{same_key, has_key, without}
 use Rattle.pws_driver.specs.Values.{number_of, text_of, digits_or_text_of, call_of, request_of, message_of, same_value}
 use Rattle.pws_driver.specs.Moves.{Moved, budget, quiet, halted, waiting, held, put}
-use Rattle.pws_driver.specs.Instructions.{put_some, value_of, bit_of, with_two, sum_of, difference_of, less_of, joined_of, bounded, jumped, low_of, may_call, called_with, call_from, await_calls, answer_with, reply_or_fault, ask_by, drawn, perform, counted, line_of, begin}
+use Rattle.pws_driver.specs.Instructions.{put_some, value_of, bit_of, with_two, sum_of, difference_of, less_of, joined_of, bounded, jumped, low_of, may_call, called_with, call_from, await_calls, answer_with, ask_by, drawn, perform, counted, line_of, begin}
 use Rattle.pws_driver.specs.Takings.{request_key, reply_key, abort_key, is_clock, is_random, wanted_by, wants_in, wants, put_key, hand, request_taken, take_by, take_answer, take_clock, take_seed, when_halted, takes_in, takes}
 use Rattle.pws_driver.specs.Lawful.{is_answer}
 
@@ -31,8 +31,8 @@ pub record Instructed (P : Moved → Type 0) (s : Service) (c : Core) : Type 0 w
   pub halts : P (halted c)
   pub goes_on : (registers : List Value) (line : ℕ) (stream : Option ChaCha) → P (quiet (record c { registers = registers; line = line; stream = stream }))
   pub waits : (w : Wait) → P (waiting c w)
-  pub calls : (d g ms n : ℕ) (body : List ℕ) → n ≡ slice_index c.called g + 1 → may_call s g n (low_of c g n) body ≡ true → P (called_with c d g n (low_of c g n) body ms)
-  pub replies : (k : Key) (body : List ℕ) → has_key c.asked k ≡ true → P (record { core = record c { asked = without k c.asked }; acts = act.Reply k.group k.number (reply_or_fault s k body) ∷ [] })
+  pub calls : (d g ms n : ℕ) (text body : List ℕ) → n ≡ slice_index c.called g + 1 → may_call s g n (low_of c g n) ≡ true → s.words.call_text s.me (record { group = g; number = n }) text ≡ Some body → P (called_with c d g n (low_of c g n) body ms)
+  pub replies : (k : Key) (message text : List ℕ) → has_key c.asked k ≡ true → P (record { core = record c { asked = without k c.asked }; acts = act.Reply k.group k.number (s.words.reply_text s.me k message text) ∷ [] })
   pub asks_clock : (d : ℕ) → c.asks < 1000000 → P (record { core = record c { mode = mode.AskingClock d; asks = c.asks + 1 }; acts = act.AskClock (c.asks + 1) ∷ [] })
   pub asks_seed : c.asks < 1000000 → P (record { core = record c { mode = mode.AskingSeed; asks = c.asks + 1 }; acts = act.AskRandom (c.asks + 1) ∷ [] })
 
@@ -70,6 +70,14 @@ drawn_holds : (P : Moved → Type 0) (s : Service) (c : Core) (d bound : ℕ) (o
 drawn_holds P s c d bound None h = h.halts
 drawn_holds P s c d bound (Some g) h = unless_holds P c (nat_eq bound 0) _ h.halts (λ e. h.goes_on _ c.line _)
 
+body_holds : (P : Moved → Type 0) (s : Service) (c : Core) (d g ms n : ℕ) (text : List ℕ) (o : Option (List ℕ)) → n ≡ slice_index c.called g + 1 → may_call s g n (low_of c g n) ≡ true → s.words.call_text s.me (record { group = g; number = n }) text ≡ o → Instructed P s c → Moves P c (option_map (λ body. called_with c d g n (low_of c g n) body ms) o)
+body_holds P s c d g ms n text None e may f h = h.halts
+body_holds P s c d g ms n text (Some body) e may f h = h.calls d g ms n text body e may f
+
+calls_hold : (P : Moved → Type 0) (s : Service) (c : Core) (d g ms n : ℕ) (text : List ℕ) (b : Bool) → n ≡ slice_index c.called g + 1 → may_call s g n (low_of c g n) ≡ b → Instructed P s c → Moves P c (cond b (option_map (λ body. called_with c d g n (low_of c g n) body ms) (s.words.call_text s.me (record { group = g; number = n }) text)) None)
+calls_hold P s c d g ms n text true e may h = body_holds P s c d g ms n text (s.words.call_text s.me (record { group = g; number = n }) text) e may refl h
+calls_hold P s c d g ms n text false e may h = h.halts
+
 pub perform_holds : (P : Moved → Type 0) (s : Service) (c : Core) (i : Instruction) → Instructed P s c → Moves P c (perform s c i)
 perform_holds P s c (line.Set d l) h = put_holds P s c d (Some (value_of l)) h
 perform_holds P s c (line.Add d a b) h = put_holds P s c d (with_two sum_of (number_of (held c a)) (number_of (held c b))) h
@@ -80,14 +88,13 @@ perform_holds P s c (line.Jump l a) h = map_holds P c (λ n. quiet (jumped c l n
 perform_holds P s c (line.Join d a b) h = put_holds P s c d (with_two joined_of (digits_or_text_of (held c a)) (digits_or_text_of (held c b))) h
 perform_holds P s c (line.Field d m name) h = put_holds P s c d (option_and_then (λ message. bounded (s.words.field_text message name)) (message_of (held c m))) h
 perform_holds P s c (line.Receive r m) h = h.waits _
-perform_holds P s c (line.Call d g t ms) h =
-    then_holds P c (call_from s c d g ms) (text_of (held c t)) h.halts (λ text. if_holds P c _ _ h.halts (λ may. h.calls d g ms (slice_index c.called g + 1) _ refl may))
+perform_holds P s c (line.Call d g t ms) h = then_holds P c (call_from s c d g ms) (text_of (held c t)) h.halts (λ text. calls_hold P s c d g ms (slice_index c.called g + 1) text _ refl refl h)
 perform_holds P s c (line.Await m r) h = then_holds P c (λ k. await_calls c None m (k ∷ [])) (call_of (held c r)) h.halts (λ k. unless_holds P c _ _ h.halts (λ e. h.waits _))
 perform_holds P s c (line.AwaitAny d m among) h = unless_holds P c _ _ h.halts (λ e. h.waits _)
 perform_holds P s c (line.Next d m) h = h.waits _
 perform_holds P s c (line.Reply r t) h =
     then_holds P c (λ q. option_and_then (answer_with s c q) (text_of (held c t))) (request_of (held c r)) h.halts
-    (λ q. then_holds P c (answer_with s c q) (text_of (held c t)) h.halts (λ text. if_holds P c (has_key c.asked q.0) _ h.halts (λ e. h.replies q.0 (s.words.reply_text s.me q.0 q.1 text) e)))
+    (λ q. then_holds P c (answer_with s c q) (text_of (held c t)) h.halts (λ text. if_holds P c (has_key c.asked q.0) _ h.halts (λ e. h.replies q.0 q.1 text e)))
 perform_holds P s c (line.Clock d) h = unless_holds P c (nat_le 1000000 c.asks) _ h.halts (λ e. h.asks_clock d (below_limit c.asks e))
 perform_holds P s c line.Seed h = unless_holds P c (nat_le 1000000 c.asks) _ h.halts (λ e. h.asks_seed (below_limit c.asks e))
 perform_holds P s c (line.Draw d n) h = then_holds P c (λ bound. drawn c d bound c.stream) (number_of (held c n)) h.halts (λ bound. drawn_holds P s c d bound c.stream h)

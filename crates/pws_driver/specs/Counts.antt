@@ -27,8 +27,8 @@ instructed s c h = record {
   halts = fewer c.left mode.Halted h;
   goes_on = λ registers line stream. fewer c.left c.mode h;
   waits = λ w. fewer c.left (mode.Waiting w) h;
-  calls = λ d g ms n body e may. fewer c.left c.mode h;
-  replies = λ k body has. fewer c.left c.mode h;
+  calls = λ d g ms n text body e may made. fewer c.left c.mode h;
+  replies = λ k message text has. fewer c.left c.mode h;
   asks_clock = λ d few. fewer c.left (mode.AskingClock d) h;
   asks_seed = λ few. fewer c.left mode.AskingSeed h;
 }

@@ -95,23 +95,25 @@ abbrev pub low_of : Core → ℕ → ℕ → ℕ
 low_of c g number = option_map_or (λ k. k.number) (find (λ k. k.group == g) c.pending) number
 
 -- whether a call is lawful: to another group of the layout, with a number up to 1,000,000 among the sixteen from the
--- low number on, and with a body of at most 32,768 bytes
-abbrev pub may_call : Service → ℕ → ℕ → ℕ → List ℕ → Bool
-may_call s g number low body =
-    nat_lt g (length s.layout) && not (g == s.me) && nat_le number 1000000 && nat_lt number (low + 16) && nat_le (length body) 32768
+-- low number on
+abbrev pub may_call : Service → ℕ → ℕ → ℕ → Bool
+may_call s g number low =
+    nat_lt g (length s.layout) && not (g == s.me) && nat_le number 1000000 && nat_lt number (low + 16)
 
 abbrev pub called_with : Core → ℕ → ℕ → ℕ → ℕ → List ℕ → ℕ → Moved
 called_with c d g number low body ms =
     record { core = put (record c { called = slice_set c.called g number; pending = c.pending ++ record { group = g; number = number } ∷ [] }) d (value.Call (record { group = g; number = number })); acts = act.Call g number low body ms ∷ [] }
 
-abbrev pub call_as : Service → Core → ℕ → ℕ → ℕ → ℕ → List ℕ → Option Moved
-call_as s c d g ms number body =
-    if may_call s g number (low_of c g number) body then Some (called_with c d g number (low_of c g number) body ms) else None
+-- a call of this number; where its body would be too long it is a fault
+abbrev pub call_as : Service → Core → ℕ → ℕ → ℕ → List ℕ → ℕ → Option Moved
+call_as s c d g ms text number =
+    if may_call s g number (low_of c g number)
+    then option_map (λ body. called_with c d g number (low_of c g number) body ms) (s.words.call_text s.me (record { group = g; number = number }) text)
+    else None
 
 -- a call to the group, with the next number
 abbrev pub call_from : Service → Core → ℕ → ℕ → ℕ → List ℕ → Option Moved
-call_from s c d g ms text =
-    call_as s c d g ms (slice_index c.called g + 1) (s.words.call_text s.me (record { group = g; number = slice_index c.called g + 1 }) text)
+call_from s c d g ms text = call_as s c d g ms text (slice_index c.called g + 1)
 
 abbrev pub call_by : Service → Core → ℕ → ℕ → ℕ → ℕ → Option Moved
 call_by s c d g t ms = option_and_then (call_from s c d g ms) (text_of (held c t))
@@ -142,14 +144,10 @@ await_any_by c d m among = await_calls c (Some d) m (calls_in c among)
 
 -- ---- replies
 
--- the body of a reply: where it would be too long, the fault that says so
-abbrev pub reply_or_fault : Service → Key → List ℕ → List ℕ
-reply_or_fault s k body = if nat_le (length body) 32768 then body else s.words.too_long s.me k
-
 abbrev pub answer_with : Service → Core → (Key × List ℕ) → List ℕ → Option Moved
 answer_with s c q text =
     if has_key c.asked q.0
-    then Some (record { core = record c { asked = without q.0 c.asked }; acts = act.Reply q.0.group q.0.number (reply_or_fault s q.0 (s.words.reply_text s.me q.0 q.1 text)) ∷ [] })
+    then Some (record { core = record c { asked = without q.0 c.asked }; acts = act.Reply q.0.group q.0.number (s.words.reply_text s.me q.0 q.1 text) ∷ [] })
     else None
 
 abbrev pub reply_by : Service → Core → ℕ → ℕ → Option Moved

@@ -2,7 +2,7 @@
 use Rattle.std.specs.Prelude.{◌≡◌, ℕ, List, [], ◌++◌}
 use Rattle.pws_event.specs.declared.events.Event.{Event}
 use Rattle.pws_driver.specs.declared.acts.Act.{Act}
-use Rattle.pws_driver.specs.Envelopes.{FaultsFit}
+use Rattle.pws_driver.specs.Envelopes.{TextsFit}
 use Rattle.pws_driver.specs.Services.{Service}
 use Rattle.pws_driver.specs.Runs.{acts_of, run_of, finish, resumed, after, IsOver}
 use Rattle.pws_driver.specs.Drivers.{IsPrefix}
@@ -22,11 +22,11 @@ abbrev pub ActsGrow : Type 0
 ActsGrow = (s : Service) (earlier later : List Event) → IsPrefix (acts_of s earlier) (acts_of s (earlier ++ later))
 
 abbrev pub CallsAreLawful : Type 0
-CallsAreLawful = (s : Service) (effects : List Event) → LawfulCalls s.me s.layout effects [] (acts_of s effects)
+CallsAreLawful = (s : Service) (effects : List Event) → TextsFit s.words → LawfulCalls s.me s.layout effects [] (acts_of s effects)
 
 -- where each effect took effect in turn
 abbrev pub RepliesAreLawful : Type 0
-RepliesAreLawful = (s : Service) (effects : List Event) → FaultsFit s.words → InTurn s.me s.layout (acts_of s) [] effects → LawfulReplies effects [] (acts_of s effects)
+RepliesAreLawful = (s : Service) (effects : List Event) → TextsFit s.words → InTurn s.me s.layout (acts_of s) [] effects → LawfulReplies effects [] (acts_of s effects)
 
 abbrev pub AsksAreLawful : Type 0
 AsksAreLawful = (s : Service) (effects : List Event) → LawfulAsks effects [] (acts_of s effects)

@@ -10,14 +10,14 @@ use Rattle.pws_driver.specs.declared.keys.Key.{Key}
 use Rattle.pws_driver.specs.declared.acts.Act.{Act}
 use Rattle.pws_driver.specs.declared.acts.Act.TheVariants as act
 use Rattle.pws_driver.specs.declared.cores.Core.{Core}
-use Rattle.pws_driver.specs.Envelopes.{FaultsFit}
+use Rattle.pws_driver.specs.Envelopes.{TextsFit}
 use Rattle.pws_driver.specs.Services.{Service}
 use Rattle.pws_driver.specs.Keys.{same_key, has_key, without}
 use Rattle.pws_driver.specs.KeyLists.{has_added, key_same, same_refl}
 use Rattle.pws_driver.specs.Effects.{InTurn}
 use Rattle.pws_driver.specs.Lawful.{is_request, is_reply, LawfulReplies}
 use Rattle.pws_driver.specs.Moves.{Moved, quiet, halted}
-use Rattle.pws_driver.specs.Instructions.{begin, counted, reply_or_fault}
+use Rattle.pws_driver.specs.Instructions.{begin, counted}
 use Rattle.pws_driver.specs.Takings.{request_key, wants, takes, is_ready}
 use Rattle.pws_driver.specs.Runs.{first_of, enough, fresh, fresh_core, acts_of}
 use Rattle.pws_driver.specs.Firsts.{Picked, picked_in, picked_wanted, or_right}
@@ -37,24 +37,13 @@ quiet_at xs u acts c k = rw (append-nil acts) k
 halted_at : (xs u : List Event) (acts : List Act) (c : Core) → J xs c u acts → K xs u acts (halted c)
 halted_at xs u acts c k = quiet_replies xs c.asked u acts act.Halted (λ j. refl) tt k
 
-small : (n : ℕ) → nat_le n 32768 ≡ true → n ≤ 32768
-small n h = grind (arith, nat_tests)
-
-fault_fits : (s : Service) (k : Key) (body : List ℕ) (b : Bool) → nat_le (length body) 32768 ≡ b → FaultsFit s.words → length (cond b body (s.words.too_long s.me k)) ≤ 32768
-fault_fits s k body true e f = small (length body) e
-fault_fits s k body false e f = f.too_long s.me k
-
--- a reply or the fault in its place fits into a body
-reply_fits : (s : Service) (k : Key) (body : List ℕ) → FaultsFit s.words → length (reply_or_fault s k body) ≤ 32768
-reply_fits s k body f = fault_fits s k body (nat_le (length body) 32768) refl f
-
-instructed : (s : Service) (xs u : List Event) (acts : List Act) (c : Core) → FaultsFit s.words → J xs c u acts → Instructed (K xs u acts) s c
+instructed : (s : Service) (xs u : List Event) (acts : List Act) (c : Core) → TextsFit s.words → J xs c u acts → Instructed (K xs u acts) s c
 instructed s xs u acts c f k = record {
   halts = halted_at xs u acts c k;
   goes_on = λ registers line stream. quiet_at xs u acts c k;
   waits = λ w. quiet_at xs u acts c k;
-  calls = λ d g ms n body e may. quiet_replies xs c.asked u acts _ (λ j. refl) tt k;
-  replies = λ key body has. answer_replies xs c.asked u acts key (reply_or_fault s key body) (reply_fits s key body f) has k;
+  calls = λ d g ms n text body e may made. quiet_replies xs c.asked u acts _ (λ j. refl) tt k;
+  replies = λ key message text has. answer_replies xs c.asked u acts key (s.words.reply_text s.me key message text) (f.reply s.me key message text) has k;
   asks_clock = λ d few. quiet_replies xs c.asked u acts (act.AskClock (c.asks + 1)) (λ j. refl) tt k;
   asks_seed = λ few. quiet_replies xs c.asked u acts (act.AskRandom (c.asks + 1)) (λ j. refl) tt k;
 }
@@ -108,7 +97,7 @@ refused_at s xs rest acts c r body size p = refused xs rest c.asked acts (reques
 opened_at : (xs rest : List Event) (acts : List Act) (c : Core) (r : RequestFields) → Picks xs c.asked acts (event.Request r) rest → RepliesKept xs (c.asked ++ request_key r ∷ []) rest acts
 opened_at xs rest acts c r p = opened xs rest c.asked acts (request_key r) (p.new (request_key r) (same_refl (request_key r))) p.kept
 
-taken : (s : Service) (xs rest : List Event) (acts : List Act) (c : Core) (e : Event) → FaultsFit s.words → Picks xs c.asked acts e rest → Taken (K xs rest acts) s c e
+taken : (s : Service) (xs rest : List Event) (acts : List Act) (c : Core) (e : Event) → TextsFit s.words → Picks xs c.asked acts e rest → Taken (K xs rest acts) s c e
 taken s xs rest acts c e f p =
     let at : (r : RequestFields) → e ≡ event.Request r → Picks xs c.asked acts (event.Request r) rest = λ r i. subst (λ (x : Event). Picks xs c.asked acts x rest) i p in
     record {
@@ -121,10 +110,10 @@ taken s xs rest acts c e f p =
       told = λ r m i. refused_at s xs rest acts c r _ (f.halted s.me (request_key r) r.body) (at r i);
     }
 
-begin_at : (s : Service) (xs : List Event) (c : Core) (u : List Event) (acts : List Act) → FaultsFit s.words → J xs c u acts → J xs (begin s c).core u (acts ++ (begin s c).acts)
+begin_at : (s : Service) (xs : List Event) (c : Core) (u : List Event) (acts : List Act) → TextsFit s.words → J xs c u acts → J xs (begin s c).core u (acts ++ (begin s c).acts)
 begin_at s xs c u acts f k = begin_holds (K xs u acts) s c (halted_at xs u acts c k) (λ some. instructed s xs u acts (counted c) f k)
 
-takes_at : (s : Service) (xs : List Event) (c : Core) (u : List Event) (acts : List Act) (q : Picked) → FaultsFit s.words → first_of (wants c) u ≡ Some q → J xs c u acts → J xs (takes s c q.0).core q.1 (acts ++ (takes s c q.0).acts)
+takes_at : (s : Service) (xs : List Event) (c : Core) (u : List Event) (acts : List Act) (q : Picked) → TextsFit s.words → first_of (wants c) u ≡ Some q → J xs c u acts → J xs (takes s c q.0).core q.1 (acts ++ (takes s c q.0).acts)
 takes_at s xs c u acts q f e k = takes_holds (K xs q.1 acts) s c q.0 (picked_wanted (wants c) u q e) (taken s xs q.1 acts c q.0 f (picks xs u acts c q e k))
 
 fresh_at : (xs : List Event) → Distinct xs → J xs fresh_core xs []
@@ -138,6 +127,6 @@ fresh_at xs d = record {
 }
 
 -- the replies of a script on effects that took effect in turn are lawful
-pub replies_lawful : (s : Service) (me : ℕ) (layout : List ℕ) (xs : List Event) → FaultsFit s.words → InTurn me layout (acts_of s) [] xs → LawfulReplies xs [] (acts_of s xs)
+pub replies_lawful : (s : Service) (me : ℕ) (layout : List ℕ) (xs : List Event) → TextsFit s.words → InTurn me layout (acts_of s) [] xs → LawfulReplies xs [] (acts_of s xs)
 replies_lawful s me layout xs f t =
     (steps_hold (J xs) s (enough xs) (fresh xs) (λ c u acts h k. begin_at s xs c u acts f k) (λ c u acts q e k. takes_at s xs c u acts q f e k) (fresh_at xs (turn_distinct me layout (acts_of s) [] xs t).1)).lawful

@@ -2,7 +2,7 @@
 
 ghost use Rattle.std.specs.Prelude.{◌≡◌, IfOk};
 ghost use Rattle.pws_driver.specs.Services.{service_of};
-ghost use Rattle.pws_driver.specs.Instructions.{low_of, call_by, receive_by, next_by, await_calls, await_by, calls_in, await_any_by, reply_or_fault, reply_by};
+ghost use Rattle.pws_driver.specs.Instructions.{low_of, call_by, receive_by, next_by, await_calls, await_by, calls_in, await_any_by, reply_by};
 ghost use Rattle.pws_driver.specs.Did.{Did};
 
 use crate::acts::Act;
@@ -12,28 +12,10 @@ use crate::instructions::Done;
 use crate::keys::{Key, Keys};
 use crate::programs::Program;
 use crate::values::Value;
-use pws_base::bytes::Bytes;
 use pws_base::memory::Memory;
 use pws_base::shapes::{GroupId, Number};
 use pws_script::operands::{Calls, Group, Register};
 use std::alloc::Global;
-
-/// The body of a reply, or of the fault in its place where it would be too long.
-fn reply_body<E: Envelopes>(
-    alloc: Global,
-    program: &Program,
-    key: Key,
-    message: &[u8],
-    text: &[u8],
-) -> Result<Bytes, Memory>
-    ensures { IfOk result (λ b. b ≡ reply_or_fault (service_of E.words program.now) key (E.words.reply_text program.now.me key message.now text.now)) }
-{
-    let body = E::reply_text(alloc, program.me, key, message, text)?;
-    if body.len() > 32768 {
-        return E::too_long(alloc, program.me, key);
-    }
-    Ok(body)
-}
 
 impl Core {
     /// Waits for a request.
@@ -101,10 +83,9 @@ impl Core {
         let Some(text) = self.registers.get(text).text() else {
             return Ok(Done::Fault);
         };
-        let body = E::call_text(alloc, program.me, key, text.as_slice())?;
-        if body.len() > 32768 {
+        let Some(body) = E::call_text(alloc, program.me, key, text.as_slice())? else {
             return Ok(Done::Fault);
-        }
+        };
         self.called[group as usize] = number;
         self.pending.push(key)?;
         self.registers.put(into, Value::Call(key));
@@ -195,7 +176,7 @@ impl Core {
         if !self.asked.has(key) {
             return Ok(Done::Fault);
         }
-        let body = reply_body::<E>(alloc, program, key, message.as_slice(), text.as_slice())?;
+        let body = E::reply_text(alloc, program.me, key, message.as_slice(), text.as_slice())?;
         self.asked.remove(key);
         Ok(Done::Acted(Act::Reply {
             caller: key.group,

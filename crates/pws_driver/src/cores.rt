@@ -13,7 +13,7 @@ use std::alloc::Global;
 
 /// Which answers a wait takes: those of any call, or those of some.
 #[derive(Debug, Drop)]
-pub enum Answers {
+pub(crate) enum Answers {
     /// Of any call of the script.
     Any,
     /// Of these calls.
@@ -22,7 +22,7 @@ pub enum Answers {
 
 /// A wait: what it takes, and where it puts what it took.
 #[derive(Debug, Drop)]
-pub struct Wait {
+pub(crate) struct Wait {
     /// Whether it takes requests.
     pub requests: bool,
     /// Which answers it takes.
@@ -35,7 +35,7 @@ pub struct Wait {
 
 /// What comes next.
 #[derive(Debug, Drop)]
-pub enum Mode {
+pub(crate) enum Mode {
     /// An instruction.
     Ready,
     /// A request or an answer for which the script waits.
@@ -50,7 +50,7 @@ pub enum Mode {
 
 /// All that a script needs to go on but the effects that it hasn't taken.
 #[derive(Drop)]
-pub struct Core {
+pub(crate) struct Core {
     /// What comes next.
     pub mode: Mode,
     /// How many lines stand before the next one.

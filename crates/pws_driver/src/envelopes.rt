@@ -1,7 +1,7 @@
 //! What the texts of envelopes mean to a service.
 
 ghost use Rattle.std.specs.Prelude.{◌≡◌, IfOk};
-ghost use Rattle.pws_driver.specs.Envelopes.{EnvelopeWords, FaultsFit};
+ghost use Rattle.pws_driver.specs.Envelopes.{EnvelopeWords, TextsFit};
 
 use crate::keys::Key;
 use pws_base::bytes::Bytes;
@@ -16,8 +16,9 @@ pub trait Envelopes: Drop {
     /// The meaning of each call.
     ghost words: { EnvelopeWords };
 
-    /// The text of a call of the group `me`, with a text in its body; the key names the called group.
-    fn call_text(alloc: Global, me: GroupId, key: Key, text: &[u8]) -> Result<Bytes, Memory>
+    /// The text of a call of the group `me`, with a text in its body; the key names the called group. None where it
+    /// would be longer than a body may be.
+    fn call_text(alloc: Global, me: GroupId, key: Key, text: &[u8]) -> Result<Option<Bytes>, Memory>
         ensures { IfOk result (λ t. t ≡ words.call_text me key text.now) };
 
     /// The text of the fault that answers a request with this body to the group `me`, or None where the body is an
@@ -30,7 +31,8 @@ pub trait Envelopes: Drop {
     ) -> Result<Option<Bytes>, Memory>
         ensures { IfOk result (λ t. t ≡ words.refusal_of me key body.now) };
 
-    /// The text of the reply of the group `me` to a request with this message, with a text in its body.
+    /// The text of the reply of the group `me` to a request with this message, with a text in its body, or of the fault
+    /// in its place where it would be longer than a body may be.
     fn reply_text(
         alloc: Global,
         me: GroupId,
@@ -39,10 +41,6 @@ pub trait Envelopes: Drop {
         text: &[u8],
     ) -> Result<Bytes, Memory>
         ensures { IfOk result (λ t. t ≡ words.reply_text me key message.now text.now) };
-
-    /// The text of the fault that stands for a reply that would be too long.
-    fn too_long(alloc: Global, me: GroupId, key: Key) -> Result<Bytes, Memory>
-        ensures { IfOk result (λ t. t ≡ words.too_long me key) };
 
     /// The text of the fault by which a halted service answers a request with this body.
     fn halted_text(alloc: Global, me: GroupId, key: Key, body: &[u8]) -> Result<Bytes, Memory>
@@ -68,6 +66,6 @@ pub trait Envelopes: Drop {
     fn field_text(alloc: Global, message: &[u8], name: &[u8]) -> Result<Bytes, Memory>
         ensures { IfOk result (λ t. t ≡ words.field_text message.now name.now) };
 
-    /// The faults fit into a body.
-    ghost fit: { FaultsFit words };
+    /// What is made here fits into a body.
+    ghost fit: { TextsFit words };
 }

@@ -5,7 +5,7 @@ ghost use Rattle.std.specs.Option.{unwrap_or};
 ghost use Rattle.pws_driver.specs.declared.cores.Core.{Core};
 ghost use Rattle.pws_driver.specs.Services.{service_of};
 ghost use Rattle.pws_driver.specs.Moves.{Moved, halted, held};
-ghost use Rattle.pws_driver.specs.Instructions.{set_by, add_by, sub_by, less_by, same_by, join_by, field_by, jump_by, low_of, call_by, receive_by, next_by, await_calls, await_by, calls_in, await_any_by, reply_or_fault, reply_by, clock_by, seed_by, draw_of, after_word, draw_by, perform, begin};
+ghost use Rattle.pws_driver.specs.Instructions.{set_by, add_by, sub_by, less_by, same_by, join_by, field_by, jump_by, clock_by, seed_by, draw_of, after_word, draw_by};
 ghost use Rattle.pws_driver.specs.Values.{number_of, same_number, same_text, same_call, same_request, same_message, same_value};
 ghost use Rattle.pws_driver.specs.Did.{Did};
 

@@ -27,7 +27,7 @@ impl ExactCopy for Key {
 }
 
 /// Whether both are one call.
-pub fn same_key(a: Key, b: Key) -> bool
+pub(crate) fn same_key(a: Key, b: Key) -> bool
     ensures { result ≡ same_key a b }
 {
     a.group == b.group && a.number == b.number
@@ -35,7 +35,7 @@ pub fn same_key(a: Key, b: Key) -> bool
 
 /// Calls, in order.
 #[derive(Debug, Drop)]
-pub struct Keys {
+pub(crate) struct Keys {
     items: Vec<Key>,
 }
 

@@ -94,7 +94,7 @@ impl<E: Envelopes> Driver for Runner<E> {
 
     ghost grows = { λ p. acts_grow (service_of E.words p) };
 
-    ghost lawful_calls = { λ p me layout es f t. calls_lawful_where (service_of E.words p) me layout es f };
+    ghost lawful_calls = { λ p me layout es f t. calls_lawful_where (service_of E.words p) me layout es E.fit f };
 
     ghost lawful_replies = { λ p me layout es f t. replies_lawful (service_of E.words p) me layout es E.fit t };
 

@@ -10,7 +10,7 @@ use std::marker::Model;
 
 /// Effects that a script hasn't taken, in order.
 #[derive(Drop)]
-pub struct Untaken {
+pub(crate) struct Untaken {
     items: Vec<Event>,
 }
 

@@ -15,7 +15,7 @@ use std::marker::Model;
 
 /// What a register holds.
 #[derive(Clone, Debug, Drop)]
-pub enum Value {
+pub(crate) enum Value {
     /// A number.
     Number(u64),
     /// A text, of at most 16,384 bytes.
@@ -36,7 +36,7 @@ impl ExactCopy for Value {
 
 /// The 32 registers.
 #[derive(Drop)]
-pub struct Registers {
+pub(crate) struct Registers {
     values: Vec<Value>,
 }
 
@@ -108,7 +108,7 @@ impl Value {
 /// # Errors
 ///
 /// `Memory` only.
-pub fn digits_or_text(alloc: Global, value: &Value) -> Result<Option<Bytes>, Memory>
+pub(crate) fn digits_or_text(alloc: Global, value: &Value) -> Result<Option<Bytes>, Memory>
     ensures { IfOk result (λ t. t ≡ digits_or_text_of value.now) }
 {
     match value {
