@@ -236,6 +236,7 @@ impl<'a> FieldReader<'a> {
     /// `Short` exactly where none is left, `Range` exactly where it is below `low` or above `high`.
     pub fn take_u8_within(&mut self, low: u8, high: u8) -> Result<u8, FieldFault>
         ensures read { Gives (λ n. n) result self.new (u8_within low high self.old) }
+        ensures range { IfOk result (λ n. (low ≤ n) × (n ≤ high)) }
         ensures err { OnErr result (self.new ≡ self.old) }
     {
         let (left, at) = (self.left, self.at);
@@ -254,6 +255,7 @@ impl<'a> FieldReader<'a> {
     /// `Short` exactly where fewer than four are left, `Range` exactly where it is below `low` or above `high`.
     pub fn take_u32_within(&mut self, low: u32, high: u32) -> Result<u32, FieldFault>
         ensures read { Gives (λ n. n) result self.new (u32_within low high self.old) }
+        ensures range { IfOk result (λ n. (low ≤ n) × (n ≤ high)) }
         ensures err { OnErr result (self.new ≡ self.old) }
     {
         let (left, at) = (self.left, self.at);
@@ -272,6 +274,7 @@ impl<'a> FieldReader<'a> {
     /// `Short` or `Range`, as of a byte within a range.
     pub fn take_group(&mut self) -> Result<GroupId, FieldFault>
         ensures read { Gives (λ n. n) result self.new (group_field self.old) }
+        ensures range { IfOk result (λ n. n ≤ 15) }
         ensures err { OnErr result (self.new ≡ self.old) }
     {
         self.take_u8_within(0, 15)
@@ -284,6 +287,7 @@ impl<'a> FieldReader<'a> {
     /// `Short` or `Range`, as of a byte within a range.
     pub fn take_index(&mut self) -> Result<u8, FieldFault>
         ensures read { Gives (λ n. n) result self.new (index_field self.old) }
+        ensures range { IfOk result (λ n. n ≤ 9) }
         ensures err { OnErr result (self.new ≡ self.old) }
     {
         self.take_u8_within(0, 9)
@@ -296,6 +300,7 @@ impl<'a> FieldReader<'a> {
     /// `Short` or `Range`, as of four bytes within a range.
     pub fn take_number(&mut self) -> Result<Number, FieldFault>
         ensures read { Gives (λ n. n) result self.new (number_field self.old) }
+        ensures range { IfOk result (λ n. (1 ≤ n) × (n ≤ 1000000)) }
         ensures err { OnErr result (self.new ≡ self.old) }
     {
         self.take_u32_within(1, 1000000)
@@ -308,6 +313,7 @@ impl<'a> FieldReader<'a> {
     /// `Short` or `Range`, as of four bytes within a range.
     pub fn take_view(&mut self) -> Result<View, FieldFault>
         ensures read { Gives (λ n. n) result self.new (view_field self.old) }
+        ensures range { IfOk result (λ n. n ≤ 1000000) }
         ensures err { OnErr result (self.new ≡ self.old) }
     {
         self.take_u32_within(0, 1000000)

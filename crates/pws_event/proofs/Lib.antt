@@ -7,3 +7,6 @@ pub mod Preserved
 pub mod Counted
 pub mod Asked
 pub mod Outgoing
+pub mod Fields
+pub mod Rising
+pub mod Answered

@@ -1,5 +1,5 @@
 -- What the reading of an event's text gives, field by field; this project's own.
-use Rattle.std.specs.Prelude.{ℕ, zero, suc, ◌+◌, ◌==◌, if◌then◌else◌, List, [], ◌∷◌, Result, Ok}
+use Rattle.std.specs.Prelude.{ℕ, zero, suc, ◌+◌, ◌==◌, if◌then◌else◌, List, [], ◌∷◌, Result, Ok, Err}
 use Rattle.pws_base.specs.declared.fields.FaultKind.TheVariants.{Kind, Range}
 use Rattle.pws_base.specs.declared.fields.FieldFault.{FieldFault}
 use Rattle.pws_base.specs.Fields.{Unread, unread, ◌>>=◌, refused, u8_field, u64_field, digest_field, u8_within, group_field, number_field, body_field, ended}
@@ -78,21 +78,22 @@ random_at u = do
   shares ← shares_at count.0 count.1
   Ok (event.Random (record { ask = ask.0; shares = shares.0 }), shares.1)
 
--- the fields of an event of this kind, whose kind byte is the first of u; Kind there where no event has the kind
-unfoldable pub kind_at : ℕ → Unread → Unread → Result (Event × Unread) FieldFault
-kind_at kind u fields =
-    if kind == 0 then Ok (event.Null, fields)
-    else if kind == 1 then request_at fields
-    else if kind == 2 then reply_at fields
-    else if kind == 3 then abort_at fields
-    else if kind == 4 then clock_at fields
-    else if kind == 5 then random_at fields
-    else refused Kind u
+-- the fields of an event of this kind, or this fault where no event has the kind
+unfoldable pub kind_at : ℕ → FieldFault → Unread → Result (Event × Unread) FieldFault
+kind_at kind unknown u =
+    if kind == 0 then Ok (event.Null, u)
+    else if kind == 1 then request_at u
+    else if kind == 2 then reply_at u
+    else if kind == 3 then abort_at u
+    else if kind == 4 then clock_at u
+    else if kind == 5 then random_at u
+    else Err unknown
 
+-- the kind in one byte and the fields; Kind at that byte where no event has the kind
 unfoldable pub event_at : Unread → Result (Event × Unread) FieldFault
 event_at u = do
   kind ← u8_field u
-  kind_at kind.0 u kind.1
+  kind_at kind.0 (record { kind = Kind; at = u.at }) kind.1
 
 -- the event that a text spells, or why it spells none
 unfoldable pub event_of : List ℕ → Result Event FieldFault

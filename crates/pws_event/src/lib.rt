@@ -17,6 +17,7 @@ pub mod effects;
 pub mod events;
 pub mod laws;
 pub mod lists;
+pub mod parsing;
 pub mod readings;
 pub mod requests;
 pub mod times;
