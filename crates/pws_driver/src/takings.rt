@@ -187,7 +187,7 @@ impl Core {
         let body = request.body();
         match E::refusal_of(alloc, program.me, key, body)? {
             Some(fault) => {
-                self.mode = Mode::Waiting(wait);
+                self.wait_on(wait);
                 acts.push(Act::Reply {
                     caller: key.group,
                     number: key.number,
@@ -215,6 +215,13 @@ impl Core {
         self.left = 10000;
         self.pending.remove(key);
         self.hand(&wait, Value::Call(key), message);
+    }
+
+    /// Still waits after a refused request.
+    fn wait_on(&mut self, wait: Wait)
+        ensures { self.new ≡ record self.old { mode = mode.Waiting wait } }
+    {
+        self.mode = Mode::Waiting(wait);
     }
 
     /// Takes an event by a wait.
