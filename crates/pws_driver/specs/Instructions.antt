@@ -105,7 +105,7 @@ called_with c d g number low body ms =
     record { core = put (record c { called = slice_set c.called g number; pending = c.pending ++ record { group = g; number = number } ∷ [] }) d (value.Call (record { group = g; number = number })); acts = act.Call g number low body ms ∷ [] }
 
 -- a call of this number; where its body would be too long it is a fault
-abbrev pub call_as : Service → Core → ℕ → ℕ → ℕ → List ℕ → ℕ → Option Moved
+abbrev call_as : Service → Core → ℕ → ℕ → ℕ → List ℕ → ℕ → Option Moved
 call_as s c d g ms text number =
     if may_call s g number (low_of c g number)
     then option_map (λ body. called_with c d g number (low_of c g number) body ms) (s.words.call_text s.me (record { group = g; number = number }) text)

@@ -16,6 +16,7 @@ pub mod Keys
 pub mod Lawful
 pub mod Laws
 pub mod Moves
+pub mod Places
 pub mod ReplyLaws
 pub mod ReplyRuns
 pub mod RunLaws

@@ -19,7 +19,7 @@ use Rattle.pws_driver.specs.Effects.{InTurn, takes_effect_after}
 use Rattle.pws_driver.specs.Takings.{request_key}
 use Rattle.pws_driver.specs.Runs.{first_of, behind}
 use Rattle.pws_driver.specs.Firsts.{Picked, picked_in, or_right}
-use Rattle.pws_driver.specs.Lawful.{is_request, is_reply, ReplyAfter, LawfulReplies}
+use Rattle.pws_driver.specs.Lawful.{is_request, is_reply, IsLawfulReply, ReplyAfter, LawfulReplies}
 
 pub true_false : {P : Type 0} (b : Bool) → b ≡ true → b ≡ false → P
 true_false b h i = let j : ◌≡◌ {A = Bool} true false = sym h ∙ i in absurd (cc)
@@ -80,8 +80,9 @@ without_others k (x ∷ ks) j h = others_in k x (without k ks) j (same_key k x) 
 -- a reply to an open request
 pub answer_replies : (xs : List Event) (asked : List Key) (untaken : List Event) (acts : List Act) (k : Key) (body : List ℕ) → length body ≤ 32768 → has_key asked k ≡ true → RepliesKept xs asked untaken acts → RepliesKept xs (without k asked) untaken (acts ++ act.Reply k.group k.number body ∷ [])
 answer_replies xs asked untaken acts k body size h c =
+    let lawful : IsLawfulReply xs acts k body = record { request = (c.asked_in k h).0; once = (c.asked_in k h).1; size = size } in
     record {
-      lawful = replies_more xs [] acts (act.Reply k.group k.number body) c.lawful (record { request = (c.asked_in k h).0; once = (c.asked_in k h).1; size = size });
+      lawful = replies_more xs [] acts (act.Reply k.group k.number body) c.lawful lawful;
       asked_in = λ j i. let p = c.asked_in j (has_without k asked j i) in (p.0, reply_more j acts (act.Reply k.group k.number body) p.1 (without_others k asked j i));
       unseen = λ j i. let p = c.unseen j i in (
         false_from _ _ (has_without k asked j) p.0,

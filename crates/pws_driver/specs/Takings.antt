@@ -113,7 +113,7 @@ take_by s w c (event.Random r) = quiet c
 
 -- ---- the agreed time and the agreed seed
 
-abbrev pub clock_taken : ℕ → Core → ℕ → Core
+abbrev clock_taken : ℕ → Core → ℕ → Core
 clock_taken d c now = put (record (ready c) { clock = now }) d (value.Number now)
 
 -- the agreed time in a group that bears f compromised replicas; it doesn't fall

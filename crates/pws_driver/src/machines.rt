@@ -1,14 +1,16 @@
 //! A suspended script: its state, and the effects that it hasn't taken.
 
 ghost use Rattle.std.specs.Prelude.{◌≡◌, ◌<◌, ◌++◌, ◌∷◌, [], ℕ, true, false, IfOk, OnOk};
-ghost use Rattle.std.specs.List.{position};
+ghost use Rattle.std.specs.List.{find, position};
+ghost use Rattle.std.specs.Option.{option_copied};
+ghost use Rattle.pws_driver.specs.Places.{places_of, passes_at, wants_requests};
 ghost use Rattle.pws_driver.specs.Services.{service_of};
 ghost use Rattle.pws_driver.specs.Runs.{run_at, first_of, step, weight, finish, IsOver};
 ghost use Rattle.pws_driver.specs.Takings.{wants};
 ghost use Rattle.pws_driver.specs.Did.{TookFirst};
 
 use crate::acts::Act;
-use crate::cores::Core;
+use crate::cores::{Core, Mode};
 use crate::envelopes::Envelopes;
 use crate::programs::Program;
 use crate::untaken::Untaken;
@@ -26,12 +28,65 @@ pub(crate) struct Machine {
     pub untaken: Untaken,
 }
 
+impl Core {
+    /// Whether the script takes a request next.
+    #[tactic(auto, unfolding(crate::specs::Places::wants_requests))]
+    fn wants_requests(&self) -> bool
+        ensures { result ≡ wants_requests self.now }
+    {
+        match &self.mode {
+            Mode::Waiting(wait) => wait.requests,
+            Mode::Halted => true,
+            Mode::Ready | Mode::AskingClock(_) | Mode::AskingSeed => false,
+        }
+    }
+}
+
 impl Untaken {
     /// The place of the first effect that the script wants.
     fn first(&self, core: &Core) -> Option<usize>
         ensures { result ≡ position (wants core.now) self.now }
     {
-        self.as_slice().iter().position(|e| core.wants(e))
+        self.items().iter().position(|e| core.wants(e))
+    }
+
+    /// Whether the script wants the effect at a place.
+    fn is_wanted(&self, core: &Core, place: usize) -> bool
+        ensures { result ≡ passes_at (wants core.now) self.now place }
+    {
+        match self.items().get(place) {
+            Some(event) => core.wants(event),
+            None => false,
+        }
+    }
+
+    fn find_other(&self, core: &Core) -> Option<&usize>
+        ensures { option_copied result ≡ find (passes_at (wants core.now) self.now) (places_of self.now) }
+    {
+        self.others().iter().find(|p| self.is_wanted(core, **p))
+    }
+
+    /// The place of the first effect that the script wants, which takes no request.
+    #[tactic(auto, using(crate::proofs::Others::wanted_other))]
+    fn first_other(&self, core: &Core) -> Option<usize>
+        requires { wants_requests core.now ≡ false }
+        ensures { result ≡ position (wants core.now) self.now }
+    {
+        match self.find_other(core) {
+            Some(place) => Some(*place),
+            None => None,
+        }
+    }
+
+    /// The place of the first effect that the script wants. Before the first request there is little else.
+    fn place(&self, core: &Core) -> Option<usize>
+        ensures { result ≡ position (wants core.now) self.now }
+    {
+        if core.wants_requests() {
+            self.first(core)
+        } else {
+            self.first_other(core)
+        }
     }
 
     /// Takes out the first effect that the script wants.
@@ -39,8 +94,8 @@ impl Untaken {
     fn take_first(&mut self, core: &Core) -> Option<Event>
         ensures { TookFirst result self.old self.new (first_of (wants core.now) self.old) }
     {
-        match self.first(core) {
-            Some(i) => Some(self.remove(i)),
+        match self.place(core) {
+            Some(place) => self.take_out(place),
             None => None,
         }
     }

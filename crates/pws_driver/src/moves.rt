@@ -6,7 +6,7 @@ ghost use Rattle.pws_driver.specs.declared.cores.Core.{Core};
 ghost use Rattle.pws_driver.specs.Services.{service_of};
 ghost use Rattle.pws_driver.specs.Moves.{Moved, halted};
 ghost use Rattle.pws_driver.specs.Instructions.{perform, begin};
-ghost use Rattle.pws_driver.specs.Did.{Did, DidMove};
+ghost use Rattle.pws_driver.specs.Did.{Did, DidMove, computed};
 
 use crate::acts::Act;
 use crate::cores::{Core, Mode};
@@ -18,16 +18,16 @@ use pws_script::instructions::Instruction;
 use std::alloc::Global;
 
 impl Core {
-    fn perform<E: Envelopes>(
+    /// Does an instruction that computes a value.
+    fn compute<E: Envelopes>(
         &mut self,
         alloc: Global,
         program: &Program,
         instruction: &Instruction,
     ) -> Result<Done, Memory>
-        ensures { IfOk result (λ d. Did d self.old self.new (perform (service_of E.words program.now) self.old instruction.now)) }
+        ensures { IfOk result (λ d. Did d self.old self.new (computed (service_of E.words program.now) self.old instruction.now)) }
     {
         match instruction {
-            Instruction::Set { target, literal } => self.set(alloc, *target, literal),
             Instruction::Add {
                 target,
                 left,
@@ -48,7 +48,6 @@ impl Core {
                 left,
                 right,
             } => self.same::<E>(alloc, program, *target, *left, *right),
-            Instruction::Jump { line, test } => Ok(self.jump(*line, *test)),
             Instruction::Join {
                 target,
                 left,
@@ -59,6 +58,22 @@ impl Core {
                 message,
                 name,
             } => self.field::<E>(alloc, program, *target, *message, name),
+            _ => Ok(Done::Fault),
+        }
+    }
+
+    /// Does an instruction.
+    fn perform<E: Envelopes>(
+        &mut self,
+        alloc: Global,
+        program: &Program,
+        instruction: &Instruction,
+    ) -> Result<Done, Memory>
+        ensures { IfOk result (λ d. Did d self.old self.new (perform (service_of E.words program.now) self.old instruction.now)) }
+    {
+        match instruction {
+            Instruction::Set { target, literal } => self.set(alloc, *target, literal),
+            Instruction::Jump { line, test } => Ok(self.jump(*line, *test)),
             Instruction::Receive { request, message } => {
                 Ok(self.receive(alloc, *request, *message))
             }
@@ -82,6 +97,12 @@ impl Core {
             Instruction::Seed => Ok(self.ask_seed()),
             Instruction::Draw { target, modulus } => Ok(self.draw(*target, *modulus)),
             Instruction::Stop => Ok(Done::Fault),
+            Instruction::Add { .. }
+            | Instruction::Sub { .. }
+            | Instruction::Less { .. }
+            | Instruction::Same { .. }
+            | Instruction::Join { .. }
+            | Instruction::Field { .. } => self.compute::<E>(alloc, program, instruction),
         }
     }
 

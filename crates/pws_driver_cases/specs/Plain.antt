@@ -15,7 +15,7 @@ fitting text = if nat_le (length text) 32768 then Some text else None
 abbrev pub refused : List ℕ → Option (List ℕ)
 refused body = if is_fault body then fitting body else None
 
-abbrev pub replied : List ℕ → List ℕ
+abbrev replied : List ℕ → List ℕ
 replied text = if nat_le (length text) 32768 then text else codes "!reply too long"
 
 abbrev pub only_if : Bool → List ℕ → List ℕ
