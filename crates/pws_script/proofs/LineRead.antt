@@ -10,7 +10,8 @@ use Rattle.std.proofs.Math.Seq.{drop-append-add}
 use Rattle.pws_script.specs.Texts.{is_line, is_word}
 use Rattle.pws_script.specs.Operations.{name_of, operations, operation_named}
 use Rattle.pws_script.specs.Spelling.{quoted, spaced, operation_of, spelling, IsLawful}
-use Rattle.pws_script.specs.Reading.{◌>>=◌, or_fault, register_at, text_at, instruction_at, text_set_in, text_set_at, words_at, words_or_text_at, words_of, line_at}
+use Rattle.pws_script.specs.Reading.{◌>>=◌, text_at, text_set_in, words_of}
+use Rattle.pws_script.specs.Steps.{or_fault, register_at, instruction_at, text_set_at, words_at, words_or_text_at, line_at}
 use Rattle.pws_script.specs.declared.faults.ScriptFault.TheVariants as fault
 use Rattle.pws_script.specs.declared.operations.Operation.{Operation}
 use Rattle.pws_script.specs.declared.instructions.Literal.TheVariants as literal

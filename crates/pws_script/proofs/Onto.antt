@@ -2,7 +2,8 @@
 use Rattle.std.proofs.Common.{◌≡◌, ℕ, suc, ◌+◌, ◌<◌, List, [], ◌∷◌, ◌++◌, length, map, drop, get_or, Result, Ok, Err, refl, sym, ◌∙◌, ap, append_assoc, append-nil, Bor, add-one}
 use Rattle.std.proofs.Math.Seq.{drop-cons}
 use Rattle.pws_script.specs.declared.faults.ScriptFault.{ScriptFault}
-use Rattle.pws_script.specs.Reading.{◌>>=◌, register_at, registers_at}
+use Rattle.pws_script.specs.Reading.{◌>>=◌}
+use Rattle.pws_script.specs.Steps.{register_at, registers_at}
 
 abbrev pub onto : {A E : Type 0} → List A → Result (List A) E → Result (List A) E
 onto front (Ok more) = Ok (front ++ more)

@@ -7,7 +7,8 @@ use Rattle.std.proofs.lemmas.List.Elements.{All-cons, All-nil}
 use Rattle.pws_script.specs.Numbers.{number_of, below, register_of}
 use Rattle.pws_script.specs.Texts.{is_word, is_name}
 use Rattle.pws_script.specs.Spelling.{register_text, operation_of, operands_of, two, three, IsRegister, AreTwo, AreThree, IsLawful}
-use Rattle.pws_script.specs.Reading.{◌>>=◌, or_fault, register_at, number_at, number_below_at, registers_at, one_at, two_at, three_at, set_at, jump_at, field_at, call_at, awaitany_at, none_at, of_one, of_two, of_three, instruction_at}
+use Rattle.pws_script.specs.Reading.{◌>>=◌}
+use Rattle.pws_script.specs.Steps.{or_fault, register_at, number_at, number_below_at, registers_at, one_at, two_at, three_at, set_at, jump_at, field_at, call_at, awaitany_at, none_at, of_one, of_two, of_three, instruction_at}
 use Rattle.pws_script.specs.declared.faults.ScriptFault.{ScriptFault}
 use Rattle.pws_script.specs.declared.faults.ScriptFault.TheVariants as fault
 use Rattle.pws_script.specs.declared.operations.Operation.{Operation}

@@ -7,7 +7,7 @@ use Rattle.pws_script.specs.Numbers.{below, register_of}
 use Rattle.pws_script.specs.Texts.{is_name, is_word}
 use Rattle.pws_script.specs.Operations.{name_of, operation_named}
 use Rattle.pws_script.specs.Spelling.{register_text, operation_of, operands_of, two, three, IsRegister, AreTwo, AreThree, IsLawful}
-use Rattle.pws_script.specs.Reading.{or_fault, register_at, number_at, number_below_at, registers_at, one_at, two_at, three_at, set_at, jump_at, field_at, call_at, awaitany_at, none_at, of_one, of_two, of_three, instruction_at}
+use Rattle.pws_script.specs.Steps.{or_fault, register_at, number_at, number_below_at, registers_at, one_at, two_at, three_at, set_at, jump_at, field_at, call_at, awaitany_at, none_at, of_one, of_two, of_three, instruction_at}
 use Rattle.pws_script.specs.declared.faults.ScriptFault.TheVariants as fault
 use Rattle.pws_script.specs.declared.operations.Operation.{Operation}
 use Rattle.pws_script.specs.declared.operations.Operation.TheVariants as operation

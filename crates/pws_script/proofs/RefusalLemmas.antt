@@ -7,8 +7,9 @@ use Rattle.pws_script.specs.Texts.{is_text}
 use Rattle.pws_script.specs.Numbers.{number_of, below, register_of}
 use Rattle.pws_script.proofs.NumberLemmas.{decimal-number_of}
 use Rattle.pws_script.specs.Operations.{operation_named}
-use Rattle.pws_script.specs.Reading.{◌>>=◌, or_fault, registers_at, one_at, two_at, three_at, set_at, jump_at, field_at, call_at, awaitany_at, none_at, of_one, of_two, of_three, instruction_at, unescaped, bytes_after, text_at, text_set_in, text_set_at, words_at, words_or_text_at, words_of, line_at}
-use Rattle.pws_script.specs.Lines.{TextLine, lines_of, at_line, each_line, script_of_lines, script_of}
+use Rattle.pws_script.specs.Reading.{◌>>=◌, unescaped, bytes_after, text_at, text_set_in, words_of}
+use Rattle.pws_script.specs.Steps.{or_fault, registers_at, one_at, two_at, three_at, set_at, jump_at, field_at, call_at, awaitany_at, none_at, of_one, of_two, of_three, instruction_at, text_set_at, words_at, words_or_text_at, line_at, at_line, each_line, script_of_lines, script_of}
+use Rattle.pws_script.specs.Lines.{TextLine, lines_of}
 use Rattle.pws_script.specs.Refusals.{register, number_below, line_number, name, exactly, shape_of, two_registers, three_registers, is_line_number, operand_fault, operation_fault, words_fault, is_text_bad, rest_fault, line_fault, or_later, first_fault, refusal_in, refusal_of}
 use Rattle.pws_script.specs.declared.faults.ScriptFault.{ScriptFault}
 use Rattle.pws_script.specs.declared.faults.ScriptFault.TheVariants as fault
@@ -270,7 +271,7 @@ utf8_err : (lines : ℕ) (ended : Bool) (words : List (List ℕ)) (b : Bool) →
 utf8_err lines ended words true = choice_err lines ended words (text_set_in words)
 utf8_err lines ended words false = refl
 
-line_err : (lines : ℕ) (l : TextLine) → err_of (line_at lines l.ended l.bytes) ≡ line_fault lines l
+pub line_err : (lines : ℕ) (l : TextLine) → err_of (line_at lines l.ended l.bytes) ≡ line_fault lines l
 unfolding line_at
 line_err lines l = utf8_err lines l.ended (words_of l.bytes) (is_utf8 l.bytes)
 

@@ -1,8 +1,12 @@
 -- The laws of the grammar of scripts.
-use Rattle.std.proofs.Common.{◌≡◌, ◌≢◌, ◌⊎◌, inl, inr, ℕ, List, Result, Ok, Err, refl, sym, ◌∙◌, ap}
-use Rattle.pws_script.specs.Spelling.{IsScript, script_text}
-use Rattle.pws_script.specs.Lines.{script_of, GivesLines}
-use Rattle.pws_script.specs.Scripts.{IsScriptOf, IsRefused, Reads, OneScript, ScriptsAreRead, ReadOrRefused, RegistersAreSpelled, NumbersAreDecimals, TextsAreQuoted}
+use Rattle.std.proofs.Common.{◌≡◌, ◌≢◌, ◌⊎◌, inl, inr, ℕ, ◌≤◌, Bool, true, List, Option, Some, None, Result, Ok, Err, refl, sym, ◌∙◌, ap}
+use Rattle.pws_script.specs.Spelling.{IsLawful, IsScript, spelling, script_text}
+use Rattle.pws_script.specs.Lines.{TextLine}
+use Rattle.pws_script.specs.Texts.{is_line}
+use Rattle.pws_script.specs.Refusals.{line_fault}
+use Rattle.pws_script.specs.Steps.{line_at, script_of, GivesLines}
+use Rattle.pws_script.specs.Scripts.{IsScriptOf, IsRefused, Reads, OneScript, ReadsWhatIsPrinted, LinesAreSpelled, ScriptsAreRead, ReadOrRefused, RegistersAreSpelled, NumbersAreDecimals, TextsAreQuoted}
+use Rattle.pws_script.specs.declared.faults.ScriptFault.{ScriptFault}
 use Rattle.pws_script.specs.declared.faults.ScriptError.{ScriptError}
 use Rattle.pws_script.specs.declared.faults.ReadScriptError.{ReadScriptError}
 use Rattle.pws_script.specs.declared.faults.ReadScriptError.TheVariants as read_error
@@ -11,17 +15,41 @@ use Rattle.pws_script.specs.Numbers.{number_of, register_of}
 use Rattle.pws_script.specs.Reading.{text_at}
 use Rattle.pws_script.proofs.NumberLemmas.{decimal-number_of, number_of-decimal}
 use Rattle.pws_script.proofs.OperandsRead.{register_of_is}
-use Rattle.pws_script.proofs.OperandsSpelled.{register_of_text}
+use Rattle.pws_script.proofs.OperandsSpelled.{has_words, register_of_text}
 use Rattle.pws_script.proofs.TextRead.{text_is}
 use Rattle.pws_script.proofs.TextSpelled.{text_read}
 use Rattle.pws_script.proofs.ScriptRead.{script_is}
-use Rattle.pws_script.proofs.ScriptSpelled.{script_read}
-use Rattle.pws_script.proofs.RefusalLemmas.{refusal_is, no_refusal}
+use Rattle.pws_script.proofs.LineRead.{line_is}
+use Rattle.pws_script.proofs.ScriptSpelled.{line_read, script_read}
+use Rattle.pws_script.proofs.RefusalLemmas.{err_of, line_err, refusal_is, no_refusal}
 
 pub one_script : OneScript
 one_script a b h k e =
     let same : ◌≡◌ {A = Result (List Instruction) ScriptError} (Ok a) (Ok b) = sym (script_read a h) ∙ (ap script_of e ∙ script_read b k) in
     cc
+
+pub reads_what_is_printed : ReadsWhatIsPrinted
+reads_what_is_printed (Ok read) instructions h r = one_script read instructions r.lawful h r.spelled
+reads_what_is_printed (Err (read_error.Script e)) instructions h r = absurd (r.unspelled instructions h refl)
+reads_what_is_printed (Err read_error.Memory) instructions h r = tt
+
+abbrev IsSpelledBy : ℕ → TextLine → Type 0
+IsSpelledBy lines l = (l.ended ≡ true) × ((i : Instruction) × IsLawful lines i × (spelling i ≡ l.bytes))
+
+spelled_by : (lines : ℕ) (l : TextLine) (r : Result Instruction ScriptFault) → is_line l.bytes ≡ true → line_at lines l.ended l.bytes ≡ r → err_of r ≡ None → IsSpelledBy lines l
+spelled_by lines l (Ok i) p h n = let read = line_is lines l.ended l.bytes i p h in (read.whole, (i, read.lawful, read.spelled))
+spelled_by lines l (Err kind) p h n = let k : ◌≡◌ {A = Option ScriptFault} (Some kind) None = n in absurd (cc)
+
+spelled_read : (lines : ℕ) (l : TextLine) (i : Instruction) → lines ≤ 1000 → l.ended ≡ true → IsLawful lines i → spelling i ≡ l.bytes → line_fault lines l ≡ None
+spelled_read lines l i few ended h s =
+    let whole : line_at lines l.ended l.bytes ≡ line_at lines true (spelling i) = ap (λ (b : Bool). line_at lines b l.bytes) ended ∙ ap (line_at lines true) (sym s) in
+    sym (line_err lines l) ∙ ap err_of (whole ∙ line_read lines i (has_words i) few refl h)
+
+pub lines_are_spelled : LinesAreSpelled
+lines_are_spelled lines l few p = (
+  λ h. spelled_by lines l (line_at lines l.ended l.bytes) p refl (line_err lines l ∙ h),
+  λ h. spelled_read lines l h.1.0 few h.0 h.1.1 h.1.2,
+)
 
 pub scripts_are_read : ScriptsAreRead
 scripts_are_read instructions h = no_refusal (script_text instructions) instructions (script_read instructions h)

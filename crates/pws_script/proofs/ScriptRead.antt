@@ -6,8 +6,9 @@ use Rattle.std.proofs.lemmas.List.Elements.{All-cons, All-nil}
 use Rattle.std.proofs.lemmas.List.Splits.{join_with_byte-slice_split}
 use Rattle.pws_script.specs.Texts.{is_line}
 use Rattle.pws_script.specs.Spelling.{IsLawful, IsScript, script_text}
-use Rattle.pws_script.specs.Reading.{◌>>=◌, line_at}
-use Rattle.pws_script.specs.Lines.{TextLine, lines_from, lines_of, at_line, each_line, script_of_lines, script_of}
+use Rattle.pws_script.specs.Reading.{◌>>=◌}
+use Rattle.pws_script.specs.Steps.{line_at, at_line, each_line, script_of_lines, script_of}
+use Rattle.pws_script.specs.Lines.{TextLine, lines_from, lines_of}
 use Rattle.pws_script.specs.declared.faults.ScriptFault.{ScriptFault}
 use Rattle.pws_script.specs.declared.faults.ScriptFault.TheVariants as fault
 use Rattle.pws_script.specs.declared.faults.ScriptError.{ScriptError}

@@ -11,8 +11,9 @@ use Rattle.std.proofs.lemmas.Str.{is_utf8-from_IsUtf8, IsUtf8-from_is_utf8, IsUt
 use Rattle.pws_script.specs.Texts.{is_line, is_text}
 use Rattle.pws_script.specs.Operations.{name_of}
 use Rattle.pws_script.specs.Spelling.{register_text, escape, quoted, operation_of, operands_of, spaced, spelling, IsLawful, IsScript, script_text}
-use Rattle.pws_script.specs.Reading.{words_of, text_set_in, text_set_at, words_at, words_or_text_at, line_at}
-use Rattle.pws_script.specs.Lines.{TextLine, lines_from, lines_of, each_line, script_of_lines, script_of}
+use Rattle.pws_script.specs.Reading.{words_of, text_set_in}
+use Rattle.pws_script.specs.Steps.{text_set_at, words_at, words_or_text_at, line_at, each_line, script_of_lines, script_of}
+use Rattle.pws_script.specs.Lines.{TextLine, lines_from, lines_of}
 use Rattle.pws_script.specs.declared.operations.Operation.TheVariants as operation
 use Rattle.pws_script.specs.declared.instructions.Literal.TheVariants as literal
 use Rattle.pws_script.specs.declared.instructions.Instruction.{Instruction}

@@ -7,7 +7,8 @@ use Rattle.pws_script.proofs.TextLemmas.{is_utf8_not}
 use Rattle.pws_script.specs.declared.faults.ScriptFault.TheVariants as fault
 use Rattle.std.proofs.lemmas.List.Splits.{join_with_byte-slice_split}
 use Rattle.std.proofs.Math.Seq.{drop-append-add}
-use Rattle.pws_script.specs.Reading.{words_of, text_set_in, line_at, words_or_text_at}
+use Rattle.pws_script.specs.Reading.{words_of, text_set_in}
+use Rattle.pws_script.specs.Steps.{line_at, words_or_text_at}
 
 abbrev pub texts : List (Bor (List ℕ)) → List (List ℕ)
 texts words = map (λ w. w.now) words

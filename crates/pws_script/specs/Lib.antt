@@ -5,4 +5,5 @@ pub mod Reading
 pub mod Refusals
 pub mod Scripts
 pub mod Spelling
+pub mod Steps
 pub mod Texts

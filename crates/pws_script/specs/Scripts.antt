@@ -1,10 +1,11 @@
 -- What reading a text answers, and laws of the grammar; this project's own rules.
-use Rattle.std.specs.Prelude.{◌≡◌, ◌≢◌, ◌⊎◌, ◌↔◌, ℕ, ◌<◌, ◌^◌, ◌==◌, true, slice_index, decimal, List, Some, None, Result, Ok, Err}
-use Rattle.pws_script.specs.Spelling.{IsScript, script_text, register_text, quoted}
+use Rattle.std.specs.Prelude.{◌≡◌, ◌≢◌, ◌⊎◌, ◌↔◌, ℕ, ◌<◌, ◌≤◌, ◌^◌, ◌==◌, true, slice_index, decimal, List, Some, None, Result, Ok, Err}
+use Rattle.pws_script.specs.Spelling.{IsLawful, IsScript, spelling, script_text, register_text, quoted}
 use Rattle.pws_script.specs.Numbers.{number_of, register_of}
 use Rattle.pws_script.specs.Texts.{is_line, is_text}
 use Rattle.pws_script.specs.Reading.{text_at}
-use Rattle.pws_script.specs.Refusals.{refusal_of}
+use Rattle.pws_script.specs.Lines.{TextLine}
+use Rattle.pws_script.specs.Refusals.{line_fault, refusal_of}
 use Rattle.pws_script.specs.declared.faults.ScriptError.{ScriptError}
 use Rattle.pws_script.specs.declared.faults.ReadScriptError.{ReadScriptError}
 use Rattle.pws_script.specs.declared.faults.ReadScriptError.TheVariants as read_error
@@ -29,6 +30,22 @@ Reads (Err read_error.Memory) text = Unit {0}
 -- two scripts with one text are one script
 abbrev pub OneScript : Type 0
 OneScript = (a b : List Instruction) → IsScript a → IsScript b → script_text a ≡ script_text b → a ≡ b
+
+-- an answer of reading that is these instructions, or the want of memory
+abbrev pub IsReadAs : Result (List Instruction) ReadScriptError → List Instruction → Type 0
+IsReadAs (Ok read) instructions = read ≡ instructions
+IsReadAs (Err (read_error.Script e)) instructions = ⊥
+IsReadAs (Err read_error.Memory) instructions = Unit {0}
+
+-- what a script prints is read as this script
+abbrev pub ReadsWhatIsPrinted : Type 0
+ReadsWhatIsPrinted =
+    (answer : Result (List Instruction) ReadScriptError) (instructions : List Instruction) → IsScript instructions → Reads answer (script_text instructions) → IsReadAs answer instructions
+
+-- a line has no fault exactly where it has a line feed and is the text of a lawful instruction
+abbrev pub LinesAreSpelled : Type 0
+LinesAreSpelled =
+    (lines : ℕ) (l : TextLine) → lines ≤ 1000 → is_line l.bytes ≡ true → (line_fault lines l ≡ None) ↔ ((l.ended ≡ true) × ((i : Instruction) × IsLawful lines i × (spelling i ≡ l.bytes)))
 
 -- the text of a script isn't refused
 abbrev pub ScriptsAreRead : Type 0

@@ -1,27 +1,36 @@
 //! Why a text is no script.
 
 ghost use Rattle.std.specs.Prelude.{◌≡◌};
-ghost use Rattle.pws_script.specs.Lines.{fault_at};
+ghost use Rattle.pws_script.specs.Steps.{fault_at};
 
 use pws_base::memory::Memory;
 use std::alloc::{AllocError, AllocFailed};
 use thiserror::Error;
 
-/// What is wrong with a line.
+/// What is wrong with a line, in the order in which a line's faults are answered.
 #[derive(Clone, Copy, Debug, PartialEq, Eq, Error)]
 pub enum ScriptFault {
+    /// The text has more than 1,000 lines; it stands at line 1,001.
     #[error("more than 1,000 lines")]
     Long,
+    /// The line isn't UTF-8, or its text literal isn't one: without its closing quote, with an unknown escape, with a
+    /// character that XML doesn't have, or of more than 4,096 bytes.
     #[error("not UTF-8, or a bad text literal")]
     Text,
+    /// The first word is no instruction, or the line has no line feed.
     #[error("an unknown instruction, or no line feed")]
     Word,
+    /// The instruction has too few or too many words, or an empty name; of an empty text it stands at line 1.
     #[error("too few or too many words")]
     Count,
+    /// A word that is to be a register is none of `r0` to `r31`.
     #[error("not a register")]
     Register,
+    /// A word that is to be a number is no decimal without leading zeros, or out of range: a number below 2^64, a
+    /// group below 16, a timeout below 2^32.
     #[error("not a number in range")]
     Number,
+    /// A jump goes to a line that the script doesn't have.
     #[error("a jump to no line")]
     Target,
 }

@@ -1,11 +1,22 @@
 //! Laws of the grammar of scripts. Together they say that each text is the text of exactly one script, or is
 //! refused at exactly one line.
 
-ghost use Rattle.pws_script.specs.Scripts.{OneScript, ScriptsAreRead, ReadOrRefused, RegistersAreSpelled, NumbersAreDecimals, TextsAreQuoted};
+ghost use Rattle.pws_script.specs.Scripts.{OneScript, ReadsWhatIsPrinted, LinesAreSpelled, ScriptsAreRead, ReadOrRefused, RegistersAreSpelled, NumbersAreDecimals, TextsAreQuoted};
 
-/// Two scripts with one text are one script, so reading what was printed gives the script.
+/// Two scripts with one text are one script.
 pub fn one_script()
     ensures { OneScript }
+{}
+
+/// What is printed is read as the script, unless memory runs out.
+pub fn reads_what_is_printed()
+    ensures { ReadsWhatIsPrinted }
+{}
+
+/// A line of a script of so many lines has no fault exactly where it ends by a line feed and is the text of a lawful
+/// instruction.
+pub fn lines_are_spelled()
+    ensures { LinesAreSpelled }
 {}
 
 /// The text of a script isn't refused.

@@ -5,7 +5,8 @@ ghost use Rattle.std.specs.Str.{bytes_eq};
 ghost use Rattle.pws_script.specs.Texts.{is_word, is_line};
 ghost use Rattle.std.specs.Option.{option_map};
 ghost use Rattle.std.specs.List.{join_with_byte, position};
-ghost use Rattle.pws_script.specs.Reading.{Gives, words_of, text_set_in, text_set_at, words_at, words_or_text_at, line_at};
+ghost use Rattle.pws_script.specs.Reading.{words_of, text_set_in};
+ghost use Rattle.pws_script.specs.Steps.{Gives, text_set_at, words_at, words_or_text_at, line_at};
 ghost use Rattle.pws_script.specs.Lines.{lines_of};
 
 use crate::faults::{LineError, ScriptFault};
@@ -128,7 +129,7 @@ fn text_set<'a>(line: &'a [u8], words: &[&'a str]) -> Option<(&'a str, &'a [u8])
     }
 }
 
-#[tactic(auto, unfolding(crate::specs::Reading::text_set_at))]
+#[tactic(auto, unfolding(crate::specs::Steps::text_set_at))]
 fn read_text_set(
     alloc: Global,
     ended: bool,
@@ -149,7 +150,7 @@ fn read_text_set(
     })
 }
 
-#[tactic(auto, unfolding(crate::specs::Reading::words_at))]
+#[tactic(auto, unfolding(crate::specs::Steps::words_at))]
 fn read_words(
     alloc: Global,
     lines: u32,

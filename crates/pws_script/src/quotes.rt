@@ -3,7 +3,8 @@
 ghost use Rattle.std.specs.Prelude.{◌≡◌, ◌≤◌, false, length};
 ghost use Rattle.std.specs.List.{list_all};
 ghost use Rattle.std.specs.Str.{chars};
-ghost use Rattle.pws_script.specs.Reading.{Gives, unescaped, bytes_after, text_at};
+ghost use Rattle.pws_script.specs.Reading.{unescaped, bytes_after, text_at};
+ghost use Rattle.pws_script.specs.Steps.{Gives};
 ghost use Rattle.pws_script.specs.Texts.{is_character, is_text};
 
 use crate::faults::{LineError, ScriptFault};

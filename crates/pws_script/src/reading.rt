@@ -2,7 +2,7 @@
 
 ghost use Rattle.std.specs.Prelude.{◌≡◌, ◌≤◌, map, length, All, true, Ok, IfOk};
 ghost use Rattle.pws_script.specs.Texts.{is_word};
-ghost use Rattle.pws_script.specs.Reading.{Gives, register_at, number_at, number_below_at, registers_at, one_at, two_at, three_at, set_at, jump_at, field_at, call_at, awaitany_at, none_at, of_one, of_two, of_three, instruction_at};
+ghost use Rattle.pws_script.specs.Steps.{Gives, register_at, number_at, number_below_at, registers_at, one_at, two_at, three_at, set_at, jump_at, field_at, call_at, awaitany_at, none_at, of_one, of_two, of_three, instruction_at};
 ghost use Rattle.pws_script.specs.declared.instructions.Instruction.TheVariants as instruction;
 
 use crate::faults::{LineError, ScriptFault};
@@ -31,7 +31,7 @@ fn number_below(word: &str, limit: u64) -> Result<u64, ScriptFault>
     read_below(word, limit).ok_or(ScriptFault::Number)
 }
 
-#[tactic(auto, unfolding(crate::specs::Reading::one_at))]
+#[tactic(auto, unfolding(crate::specs::Steps::one_at))]
 fn read_one(words: &[&str]) -> Result<Register, ScriptFault>
     ensures { result ≡ one_at (map (λ w. w.now) words.now) }
 {
@@ -41,7 +41,7 @@ fn read_one(words: &[&str]) -> Result<Register, ScriptFault>
     }
 }
 
-#[tactic(auto, unfolding(crate::specs::Reading::two_at))]
+#[tactic(auto, unfolding(crate::specs::Steps::two_at))]
 fn read_two(words: &[&str]) -> Result<(Register, Register), ScriptFault>
     ensures { result ≡ two_at (map (λ w. w.now) words.now) }
 {
@@ -51,7 +51,7 @@ fn read_two(words: &[&str]) -> Result<(Register, Register), ScriptFault>
     }
 }
 
-#[tactic(auto, unfolding(crate::specs::Reading::three_at))]
+#[tactic(auto, unfolding(crate::specs::Steps::three_at))]
 fn read_three(words: &[&str]) -> Result<(Register, Register, Register), ScriptFault>
     ensures { result ≡ three_at (map (λ w. w.now) words.now) }
 {
@@ -61,7 +61,7 @@ fn read_three(words: &[&str]) -> Result<(Register, Register, Register), ScriptFa
     }
 }
 
-#[tactic(auto, unfolding(crate::specs::Reading::set_at))]
+#[tactic(auto, unfolding(crate::specs::Steps::set_at))]
 fn read_set(words: &[&str]) -> Result<Instruction, ScriptFault>
     ensures { result ≡ set_at (map (λ w. w.now) words.now) }
 {
@@ -76,7 +76,7 @@ fn read_set(words: &[&str]) -> Result<Instruction, ScriptFault>
     })
 }
 
-#[tactic(auto, unfolding(crate::specs::Reading::jump_at))]
+#[tactic(auto, unfolding(crate::specs::Steps::jump_at))]
 fn read_jump(words: &[&str], lines: u32) -> Result<Instruction, ScriptFault>
     ensures { result ≡ jump_at lines (map (λ w. w.now) words.now) }
 {
@@ -95,7 +95,7 @@ fn read_jump(words: &[&str], lines: u32) -> Result<Instruction, ScriptFault>
     }
 }
 
-#[tactic(auto, unfolding(crate::specs::Reading::call_at))]
+#[tactic(auto, unfolding(crate::specs::Steps::call_at))]
 fn read_call(words: &[&str]) -> Result<Instruction, ScriptFault>
     ensures { result ≡ call_at (map (λ w. w.now) words.now) }
 {
@@ -125,7 +125,7 @@ fn read_registers(alloc: Global, words: &[&str]) -> Result<Vec<Register>, LineEr
     Ok(registers)
 }
 
-#[tactic(auto, unfolding(crate::specs::Reading::awaitany_at))]
+#[tactic(auto, unfolding(crate::specs::Steps::awaitany_at))]
 fn read_await_any(alloc: Global, words: &[&str]) -> Result<Instruction, LineError>
     ensures { Gives (λ i. i) result (awaitany_at (map (λ w. w.now) words.now)) }
 {
@@ -145,7 +145,7 @@ fn read_await_any(alloc: Global, words: &[&str]) -> Result<Instruction, LineErro
     })
 }
 
-#[tactic(auto, unfolding(crate::specs::Reading::none_at))]
+#[tactic(auto, unfolding(crate::specs::Steps::none_at))]
 fn read_none(words: &[&str], instruction: Instruction) -> Result<Instruction, ScriptFault>
     ensures { result ≡ none_at instruction (map (λ w. w.now) words.now) }
 {
@@ -156,7 +156,7 @@ fn read_none(words: &[&str], instruction: Instruction) -> Result<Instruction, Sc
     }
 }
 
-#[tactic(auto, unfolding(crate::specs::Reading::field_at))]
+#[tactic(auto, unfolding(crate::specs::Steps::field_at))]
 fn read_field(alloc: Global, words: &[&str]) -> Result<Instruction, LineError>
     requires { All (λ w. is_word w.now ≡ true) words.now }
     ensures { Gives (λ i. i) result (field_at (map (λ w. w.now) words.now)) }
@@ -185,7 +185,7 @@ fn read_name(alloc: Global, word: &str) -> Result<Name, LineError>
     Ok(Name::new(Bytes::from_slice(alloc, bytes)?))
 }
 
-#[tactic(auto, unfolding(crate::specs::Reading::three_at))]
+#[tactic(auto, unfolding(crate::specs::Steps::three_at))]
 fn read_add(words: &[&str]) -> Result<Instruction, ScriptFault>
     ensures { result ≡ of_three instruction.Add (map (λ w. w.now) words.now) }
 {
@@ -197,7 +197,7 @@ fn read_add(words: &[&str]) -> Result<Instruction, ScriptFault>
     })
 }
 
-#[tactic(auto, unfolding(crate::specs::Reading::three_at))]
+#[tactic(auto, unfolding(crate::specs::Steps::three_at))]
 fn read_sub(words: &[&str]) -> Result<Instruction, ScriptFault>
     ensures { result ≡ of_three instruction.Sub (map (λ w. w.now) words.now) }
 {
@@ -209,7 +209,7 @@ fn read_sub(words: &[&str]) -> Result<Instruction, ScriptFault>
     })
 }
 
-#[tactic(auto, unfolding(crate::specs::Reading::three_at))]
+#[tactic(auto, unfolding(crate::specs::Steps::three_at))]
 fn read_less(words: &[&str]) -> Result<Instruction, ScriptFault>
     ensures { result ≡ of_three instruction.Less (map (λ w. w.now) words.now) }
 {
@@ -221,7 +221,7 @@ fn read_less(words: &[&str]) -> Result<Instruction, ScriptFault>
     })
 }
 
-#[tactic(auto, unfolding(crate::specs::Reading::three_at))]
+#[tactic(auto, unfolding(crate::specs::Steps::three_at))]
 fn read_same(words: &[&str]) -> Result<Instruction, ScriptFault>
     ensures { result ≡ of_three instruction.Same (map (λ w. w.now) words.now) }
 {
@@ -233,7 +233,7 @@ fn read_same(words: &[&str]) -> Result<Instruction, ScriptFault>
     })
 }
 
-#[tactic(auto, unfolding(crate::specs::Reading::three_at))]
+#[tactic(auto, unfolding(crate::specs::Steps::three_at))]
 fn read_join(words: &[&str]) -> Result<Instruction, ScriptFault>
     ensures { result ≡ of_three instruction.Join (map (λ w. w.now) words.now) }
 {
@@ -245,7 +245,7 @@ fn read_join(words: &[&str]) -> Result<Instruction, ScriptFault>
     })
 }
 
-#[tactic(auto, unfolding(crate::specs::Reading::two_at))]
+#[tactic(auto, unfolding(crate::specs::Steps::two_at))]
 fn read_receive(words: &[&str]) -> Result<Instruction, ScriptFault>
     ensures { result ≡ of_two instruction.Receive (map (λ w. w.now) words.now) }
 {
@@ -253,7 +253,7 @@ fn read_receive(words: &[&str]) -> Result<Instruction, ScriptFault>
     Ok(Instruction::Receive { request, message })
 }
 
-#[tactic(auto, unfolding(crate::specs::Reading::two_at))]
+#[tactic(auto, unfolding(crate::specs::Steps::two_at))]
 fn read_await(words: &[&str]) -> Result<Instruction, ScriptFault>
     ensures { result ≡ of_two instruction.Await (map (λ w. w.now) words.now) }
 {
@@ -261,7 +261,7 @@ fn read_await(words: &[&str]) -> Result<Instruction, ScriptFault>
     Ok(Instruction::Await { message, call })
 }
 
-#[tactic(auto, unfolding(crate::specs::Reading::two_at))]
+#[tactic(auto, unfolding(crate::specs::Steps::two_at))]
 fn read_next(words: &[&str]) -> Result<Instruction, ScriptFault>
     ensures { result ≡ of_two instruction.Next (map (λ w. w.now) words.now) }
 {
@@ -269,7 +269,7 @@ fn read_next(words: &[&str]) -> Result<Instruction, ScriptFault>
     Ok(Instruction::Next { source, message })
 }
 
-#[tactic(auto, unfolding(crate::specs::Reading::two_at))]
+#[tactic(auto, unfolding(crate::specs::Steps::two_at))]
 fn read_reply(words: &[&str]) -> Result<Instruction, ScriptFault>
     ensures { result ≡ of_two instruction.Reply (map (λ w. w.now) words.now) }
 {
@@ -277,7 +277,7 @@ fn read_reply(words: &[&str]) -> Result<Instruction, ScriptFault>
     Ok(Instruction::Reply { request, text })
 }
 
-#[tactic(auto, unfolding(crate::specs::Reading::two_at))]
+#[tactic(auto, unfolding(crate::specs::Steps::two_at))]
 fn read_draw(words: &[&str]) -> Result<Instruction, ScriptFault>
     ensures { result ≡ of_two instruction.Draw (map (λ w. w.now) words.now) }
 {
@@ -285,7 +285,7 @@ fn read_draw(words: &[&str]) -> Result<Instruction, ScriptFault>
     Ok(Instruction::Draw { target, modulus })
 }
 
-#[tactic(auto, unfolding(crate::specs::Reading::one_at))]
+#[tactic(auto, unfolding(crate::specs::Steps::one_at))]
 fn read_clock(words: &[&str]) -> Result<Instruction, ScriptFault>
     ensures { result ≡ of_one instruction.Clock (map (λ w. w.now) words.now) }
 {
@@ -294,7 +294,7 @@ fn read_clock(words: &[&str]) -> Result<Instruction, ScriptFault>
 }
 
 /// The instruction of an operation with these words after it, in a script of so many lines.
-#[tactic(auto, unfolding(crate::specs::Reading::instruction_at))]
+#[tactic(auto, unfolding(crate::specs::Steps::instruction_at))]
 pub(crate) fn read_instruction(
     alloc: Global,
     lines: u32,

@@ -3,8 +3,8 @@
 ghost use Rattle.std.specs.Prelude.{◌≡◌, ◌∷◌, ◌++◌, [], length, true, IfOk, OnOk};
 ghost use Rattle.pws_script.specs.Scripts.{Reads};
 ghost use Rattle.pws_script.specs.Spelling.{IsScript, script_text, spelling};
-ghost use Rattle.pws_script.specs.Lines.{GivesLines, at_line, each_line, lines_of, script_of};
-ghost use Rattle.pws_script.specs.Reading.{line_at};
+ghost use Rattle.pws_script.specs.Lines.{lines_of};
+ghost use Rattle.pws_script.specs.Steps.{GivesLines, at_line, each_line, script_of, line_at};
 ghost use Rattle.pws_script.specs.Texts.{is_line};
 
 use crate::faults::{LineError, ReadScriptError, ScriptFault};
@@ -53,7 +53,7 @@ fn read_lines(alloc: Global, count: u32, text: &[u8]) -> Result<Vec<Instruction>
 }
 
 /// The instructions of a text, 1 to 1,000 of them.
-#[tactic(auto, unfolding(crate::specs::Lines::script_of_lines))]
+#[tactic(auto, unfolding(crate::specs::Steps::script_of_lines))]
 fn read_instructions(alloc: Global, text: &[u8]) -> Result<Vec<Instruction>, ReadScriptError>
     ensures { GivesLines (λ v. v.items) result (script_of text.now) }
 {

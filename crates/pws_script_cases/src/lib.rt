@@ -5,7 +5,7 @@
 mod tests {
     use pws_base::lists::ExactCopy;
     use pws_script::faults::{ReadScriptError, ScriptError, ScriptFault};
-    use pws_script::instructions::Instruction;
+    use pws_script::instructions::{Instruction, Literal};
     use pws_script::scripts::Script;
     use std::alloc::{AllocError, Global};
     use std::test::Fail;
@@ -756,9 +756,17 @@ mod tests {
         Ok(())
     }
 
+    fn is_literal_copied(alloc: Global, literal: &Literal) -> Result<bool, Fail> {
+        let text = match literal {
+            Literal::Text(text) => text.copy(alloc)? == *text,
+            Literal::Number(_) => true,
+        };
+        Ok(text && literal.copy(alloc)? == *literal)
+    }
+
     fn is_copied(alloc: Global, instruction: &Instruction) -> Result<bool, Fail> {
         let parts = match instruction {
-            Instruction::Set { literal, .. } => literal.copy(alloc)? == *literal,
+            Instruction::Set { literal, .. } => is_literal_copied(alloc, literal)?,
             Instruction::Field { name, .. } => name.copy(alloc)? == *name,
             Instruction::AwaitAny { calls, .. } => calls.copy(alloc)? == *calls,
             _ => true,

@@ -1,5 +1,6 @@
 use Rattle.std.proofs.Common.{ap, ◌∙◌, sym, subst}
-use Rattle.pws_script.specs.Reading.{Gives, words_or_text_at, words_of, text_set_in}
+use Rattle.pws_script.specs.Reading.{words_of, text_set_in}
+use Rattle.pws_script.specs.Steps.{Gives, words_or_text_at}
 use Rattle.pws_script.proofs.WordLemmas.{line_at_utf8, line_at_other}
 use Rattle.pws_script.proofs.lines.read_line.Goals as goal
 

@@ -1,5 +1,5 @@
 use Rattle.std.proofs.Common.{◌≡◌, map, drop, length}
-use Rattle.pws_script.specs.Reading.{registers_at}
+use Rattle.pws_script.specs.Steps.{registers_at}
 use Rattle.pws_script.proofs.Onto.{onto}
 use Rattle.pws_script.proofs.reading.read_registers.Given as goal
 

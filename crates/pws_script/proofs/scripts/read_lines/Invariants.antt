@@ -1,5 +1,6 @@
 use Rattle.std.proofs.Common.{◌≡◌, ◌+◌, length}
-use Rattle.pws_script.specs.Lines.{each_line, lines_of}
+use Rattle.pws_script.specs.Lines.{lines_of}
+use Rattle.pws_script.specs.Steps.{each_line}
 use Rattle.pws_script.proofs.Onto.{onto}
 use Rattle.pws_script.proofs.scripts.read_lines.Given as goal
 

@@ -1,0 +1,131 @@
+//! Texts in the place of envelopes.
+
+ghost use Rattle.std.specs.Prelude.{◌≡◌, drop, IfOk};
+ghost use Rattle.pws_driver_cases.specs.Plain.{is_fault, fitting, only_if, field_of};
+
+use pws_base::bytes::Bytes;
+use pws_base::memory::Memory;
+use pws_base::shapes::GroupId;
+use pws_driver::envelopes::Envelopes;
+use pws_driver::keys::Key;
+use std::alloc::Global;
+
+/// Texts in the place of envelopes: a message is its text, and one that begins with an exclamation mark is a fault.
+#[derive(Clone, Copy, Debug)]
+pub struct Plain;
+
+fn is_fault(text: &[u8]) -> bool
+    ensures { result ≡ is_fault text.now }
+{
+    !text.is_empty() && text[0] == b'!'
+}
+
+fn fitting(alloc: Global, text: &[u8]) -> Result<Option<Bytes>, Memory>
+    ensures { IfOk result (λ t. t ≡ fitting text.now) }
+{
+    if text.len() <= 32768 {
+        Ok(Some(Bytes::from_slice(alloc, text)?))
+    } else {
+        Ok(None)
+    }
+}
+
+fn only_if(alloc: Global, some: bool, text: &[u8]) -> Result<Bytes, Memory>
+    ensures { IfOk result (λ t. t ≡ only_if some text.now) }
+{
+    if some {
+        Bytes::from_slice(alloc, text)
+    } else {
+        Ok(Bytes::new(alloc))
+    }
+}
+
+fn rest(text: &[u8]) -> &[u8]
+    ensures { result.now ≡ drop 1 text.now }
+{
+    if text.is_empty() { text } else { &text[1..] }
+}
+
+fn field_of(alloc: Global, message: &[u8], name: &[u8]) -> Result<Bytes, Memory>
+    ensures { IfOk result (λ t. t ≡ field_of message.now name.now) }
+{
+    let fault = is_fault(message);
+    if name == b"text".as_slice() {
+        return only_if(alloc, !fault, message);
+    }
+    if name == b"Reason".as_slice() {
+        return only_if(alloc, fault, rest(message));
+    }
+    if name == b"Code".as_slice() {
+        return only_if(alloc, fault, b"Receiver");
+    }
+    Ok(Bytes::new(alloc))
+}
+
+impl Envelopes for Plain {
+    ghost use Rattle.pws_driver_cases.specs.Plain.{plain_words, plain_fit};
+
+    ghost words = { plain_words };
+
+    ghost fit = { plain_fit };
+
+    fn call_text(
+        alloc: Global,
+        _me: GroupId,
+        _key: Key,
+        text: &[u8],
+    ) -> Result<Option<Bytes>, Memory> {
+        fitting(alloc, text)
+    }
+
+    fn refusal_of(
+        alloc: Global,
+        _me: GroupId,
+        _key: Key,
+        body: &[u8],
+    ) -> Result<Option<Bytes>, Memory> {
+        if is_fault(body) {
+            fitting(alloc, body)
+        } else {
+            Ok(None)
+        }
+    }
+
+    fn reply_text(
+        alloc: Global,
+        _me: GroupId,
+        _key: Key,
+        _message: &[u8],
+        text: &[u8],
+    ) -> Result<Bytes, Memory> {
+        if text.len() <= 32768 {
+            Bytes::from_slice(alloc, text)
+        } else {
+            Bytes::from_slice(alloc, b"!reply too long")
+        }
+    }
+
+    fn halted_text(alloc: Global, _me: GroupId, _key: Key, _body: &[u8]) -> Result<Bytes, Memory> {
+        Bytes::from_slice(alloc, b"!service halted")
+    }
+
+    fn is_readable(_alloc: Global, body: &[u8]) -> Result<bool, Memory> {
+        Ok(!is_fault(body))
+    }
+
+    fn unreadable(alloc: Global) -> Result<Bytes, Memory> {
+        Bytes::from_slice(alloc, b"!unreadable reply")
+    }
+
+    fn timed_out(alloc: Global) -> Result<Bytes, Memory> {
+        Bytes::from_slice(alloc, b"!timed out")
+    }
+
+    fn same_message(_alloc: Global, message: &[u8], other: &[u8]) -> Result<bool, Memory> {
+        Ok(message == other)
+    }
+
+    fn field_text(alloc: Global, message: &[u8], name: &[u8]) -> Result<Bytes, Memory> {
+        field_of(alloc, message, name)
+    }
+}
