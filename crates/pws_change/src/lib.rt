@@ -14,12 +14,12 @@
 
 pub mod agreements;
 pub mod choices;
-pub mod counts;
+mod counts;
 pub mod decisions;
-pub mod digests;
+mod digests;
 pub mod heard;
 pub mod laws;
 pub mod pre_prepared;
 pub mod prepared;
-pub mod search;
+mod search;
 pub mod valid;

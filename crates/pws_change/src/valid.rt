@@ -71,7 +71,7 @@ fn are_p_rows_each_valid(rows: &[PRow], low: Place, view: View) -> bool
 }
 
 /// Whether prepared rows rise by place.
-pub(crate) fn p_rows_rise(rows: &[PRow]) -> bool
+fn p_rows_rise(rows: &[PRow]) -> bool
     ensures { result ≡ rises (λ a b. nat_lt a.place b.place) rows.now }
 {
     rows.is_sorted_by(|a, b| a.place < b.place)
