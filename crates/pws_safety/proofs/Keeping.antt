@@ -12,7 +12,7 @@ use Rattle.pws_msg.specs.declared.changes.Seen.{Seen}
 use Rattle.pws_msg.specs.declared.changes.ViewChange.{ViewChange}
 use Rattle.pws_msg.specs.declared.changes.NewView.{NewView}
 use Rattle.pws_safety.specs.Replicas.{AtLeast}
-use Rattle.pws_safety.specs.Statement.{Statement, PrePrepare, Prepare, Commit, Ack, view_of}
+use Rattle.pws_safety.specs.Statement.{Statement, Commit, Ack, view_of}
 use Rattle.pws_safety.specs.Statement as say
 use Rattle.pws_safety.specs.Statements.{Group, Sent, Told, Gives, StandsBy, Backs, size, primary}
 use Rattle.pws_safety.specs.Voters.{Slot, Core, accepted, with_slot, after_accept, after_prepare, after_commit, after_lower, report_of, after_move, after_enter, IsTrimmed, IsNoted, IsHeard}

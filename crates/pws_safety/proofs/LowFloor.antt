@@ -10,7 +10,7 @@ use Rattle.pws_safety.specs.Statement as say
 use Rattle.pws_safety.specs.Statements.{Group, Sent, Told, primary}
 use Rattle.pws_safety.specs.Voters.{Core, after_accept, after_prepare, after_commit, after_move, after_enter, IsHeard, accept, prepare, commit, move}
 use Rattle.pws_safety.specs.Runs.{with_core}
-use Rattle.pws_safety.specs.Witnesses.{example_digest, first_checkpoint, prepared_row, pre_prepared_row, example_report, same_change}
+use Rattle.pws_safety.specs.Witnesses.{first_checkpoint, prepared_row, pre_prepared_row, example_report, same_change}
 use Rattle.pws_safety.specs.Counterexamples.{ReachedWith, Misleads, CheckpointFloor}
 use Rattle.pws_safety.specs.Counterexamples as rule
 use Rattle.pws_safety.proofs.FirstRun.{two_have, three_have, one_occurs, group, backup_prepared, committed_cores, prepared_sent, committed_run}

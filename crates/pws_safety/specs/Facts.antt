@@ -7,7 +7,7 @@ use Rattle.pws_msg.specs.declared.changes.QRow.{QRow}
 use Rattle.pws_msg.specs.declared.changes.Seen.{Seen}
 use Rattle.pws_msg.specs.declared.changes.ViewChange.{ViewChange}
 use Rattle.pws_safety.specs.Replicas.{AtLeast, IsSound}
-use Rattle.pws_safety.specs.Statement.{Statement, Commit}
+use Rattle.pws_safety.specs.Statement.{Commit}
 use Rattle.pws_safety.specs.Statement as say
 use Rattle.pws_safety.specs.Statements.{Group, Sent, StandsFor, Backs, IsCorrect, size}
 use Rattle.pws_safety.specs.Kept.{HasReason}
