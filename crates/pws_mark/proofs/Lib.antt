@@ -4,3 +4,15 @@ pub mod Worked
 pub mod Escapes
 pub mod ReadBack
 pub mod ValueReadBack
+pub mod PlainNames
+pub mod PrefixTexts
+pub mod BoundPrefixes
+pub mod WrittenDocument
+pub mod GoodNodes
+pub mod WrittenSpelling
+pub mod WrittenGrammar
+pub mod WrittenValues
+pub mod WrittenMeaning
+pub mod WrittenFaults
+pub mod WrittenUtf8
+pub mod CanonicalStands

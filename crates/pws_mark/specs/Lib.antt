@@ -1,6 +1,7 @@
 pub mod Beginnings
 pub mod Bindings
 pub mod Canonical
+pub mod CanonicalTexts
 pub mod Causes
 pub mod CharacterTable
 pub mod Digits
