@@ -16,3 +16,5 @@ pub mod WrittenMeaning
 pub mod WrittenFaults
 pub mod WrittenUtf8
 pub mod CanonicalStands
+pub mod ApartBytes
+pub mod CanonicalApart

@@ -172,7 +172,7 @@ attributes_lawful m spaces [] h = refl
 attributes_lawful m spaces (a ∷ more) h =
     and_from (is_attribute (attribute_of spaces a)) (list_all is_attribute (map (attribute_of spaces) more)) (written_lawful (name_chars spaces a.name) a.value h.0.name.lawful h.0.value) (attributes_lawful m spaces more h.1)
 
-declaration_named : (i : ℕ) → i < 2 ^ 64 → is_name (declaration_name i) ≡ true
+pub declaration_named : (i : ℕ) → i < 2 ^ 64 → is_name (declaration_name i) ≡ true
 unfolding declaration_name xmlns_word name_start_ranges name_more_ranges
 declaration_named i low = name_of_parts xmlns_word (110 ∷ decimal i) refl (decimal_chars i low)
 

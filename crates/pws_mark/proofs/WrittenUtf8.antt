@@ -93,6 +93,10 @@ all_scalars p h (c ∷ cs) all =
 spelled_of : (p : ℕ → Bool) → ((c : ℕ) → p c ≡ true → scalar c ≡ true) → (cs : List ℕ) → list_all p cs ≡ true → IsUtf8 (encodes cs)
 spelled_of p h cs all = (cs, (all_scalars p h cs all, refl))
 
+pub name_scalars : (cs : List ℕ) → is_name cs ≡ true → scalars cs ≡ true
+unfolding is_name
+name_scalars cs h = all_scalars is_word_char (λ c e. text_scalar c (word_text c e)) cs (word_of cs true h)
+
 name_utf8 : (cs : List ℕ) → is_name cs ≡ true → IsUtf8 (encodes cs)
 unfolding is_name
 name_utf8 cs h = spelled_of is_word_char (λ c e. text_scalar c (word_text c e)) cs (word_of cs true h)

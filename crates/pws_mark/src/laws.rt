@@ -1,6 +1,6 @@
 //! What holds of the canonical text of every tree. The functions do nothing: their contracts are the laws.
 
-ghost use Rattle.pws_mark.specs.CanonicalTexts.{CanonicalStands, CanonicalMayBeRead, TextsAreUtf8};
+ghost use Rattle.pws_mark.specs.CanonicalTexts.{CanonicalStands, CanonicalMayBeRead, CanonicalTellsApart, TextsAreUtf8};
 
 /// The canonical text of a lawful tree stands for that tree: a document of the grammar is spelled so, has no fault, and
 /// stands for the tree. The text has fewer than 2^64 bytes, as every text in memory has.
@@ -11,6 +11,11 @@ pub fn canonical_stands()
 /// Reading may answer the tree of which a text is the canonical one, where it has at most 32,768 bytes.
 pub fn canonical_may_be_read()
     ensures { CanonicalMayBeRead }
+{}
+
+/// Two lawful trees with one canonical text are the same.
+pub fn canonical_tells_apart()
+    ensures { CanonicalTellsApart }
 {}
 
 /// Each text of the grammar is UTF-8.
