@@ -18,3 +18,8 @@ pub mod WrittenUtf8
 pub mod CanonicalStands
 pub mod ApartBytes
 pub mod CanonicalApart
+pub mod LawfulTexts
+pub mod LawfulNames
+pub mod LawfulAttributes
+pub mod LawfulValues
+pub mod LawfulMeaning

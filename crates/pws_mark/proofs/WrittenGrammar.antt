@@ -57,7 +57,7 @@ others_inside : list_all (within xml_ranges) name_more_ranges ≡ true
 unfolding xml_ranges name_more_ranges
 others_inside = refl
 
-name_char_is_xml : (c : ℕ) → is_name_char c ≡ true → is_xml_char c ≡ true
+pub name_char_is_xml : (c : ℕ) → is_name_char c ≡ true → is_xml_char c ≡ true
 name_char_is_xml c h = by (or_cases (is_in name_start_ranges c) (is_in name_more_ranges c) h)
   where
     by : (is_in name_start_ranges c ≡ true) ⊎ (is_in name_more_ranges c ≡ true) → is_xml_char c ≡ true

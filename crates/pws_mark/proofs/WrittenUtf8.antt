@@ -38,7 +38,7 @@ in_ranges c h = by (or_cases (nat_le 0 c && nat_le c 55295) ((nat_le 57344 c && 
     by (inl e) = low_scalar c (omega (arith, leb-true c 55295 (and_parts (nat_le 0 c) (nat_le c 55295) e).1))
     by (inr e) = high (or_cases (nat_le 57344 c && nat_le c 1114111) false e)
 
-xml_scalar : (c : ℕ) → is_xml_char c ≡ true → scalar c ≡ true
+pub xml_scalar : (c : ℕ) → is_xml_char c ≡ true → scalar c ≡ true
 unfolding xml_ranges scalar_ranges
 xml_scalar c h = in_ranges c (inside xml_ranges scalar_ranges c refl h)
 
@@ -83,7 +83,7 @@ hexadecimal_scalar c h = by (or_cases (is_digit c) ((nat_le 65 c && nat_le c 70)
     by (inl e) = digit_scalar c e
     by (inr e) = letter (or_cases (nat_le 65 c && nat_le c 70) (nat_le 97 c && nat_le c 102) e)
 
-all_scalars : (p : ℕ → Bool) → ((c : ℕ) → p c ≡ true → scalar c ≡ true) → (cs : List ℕ) → list_all p cs ≡ true → scalars cs ≡ true
+pub all_scalars : (p : ℕ → Bool) → ((c : ℕ) → p c ≡ true → scalar c ≡ true) → (cs : List ℕ) → list_all p cs ≡ true → scalars cs ≡ true
 all_scalars p h [] all = refl
 all_scalars p h (c ∷ cs) all =
     let parts = and_parts (p c) (list_all p cs) all in

@@ -9,6 +9,7 @@ pub mod Documents
 pub mod Examples
 pub mod Faults
 pub mod Grammar
+pub mod LawfulMeanings
 pub mod Meaning
 pub mod Places
 pub mod Reading

@@ -1,6 +1,7 @@
 //! What holds of the canonical text of every tree. The functions do nothing: their contracts are the laws.
 
 ghost use Rattle.pws_mark.specs.CanonicalTexts.{CanonicalStands, CanonicalMayBeRead, CanonicalTellsApart, TextsAreUtf8};
+ghost use Rattle.pws_mark.specs.LawfulMeanings.{MeaningsAreLawful};
 
 /// The canonical text of a lawful tree stands for that tree: a document of the grammar is spelled so, has no fault, and
 /// stands for the tree. The text has fewer than 2^64 bytes, as every text in memory has.
@@ -21,4 +22,9 @@ pub fn canonical_tells_apart()
 /// Each text of the grammar is UTF-8.
 pub fn texts_are_utf8()
     ensures { TextsAreUtf8 }
+{}
+
+/// A document of the grammar that has no faults stands for a lawful tree.
+pub fn meanings_are_lawful()
+    ensures { MeaningsAreLawful }
 {}
