@@ -14,7 +14,7 @@ use Rattle.pws_tree.specs.Trees.{Tree, Nodes, NoNode, TextThen, QualifiedThen, E
 use Rattle.pws_tree.specs.declared.texts.Name.{Name}
 use Rattle.pws_tree.specs.declared.texts.Attr.{Attr}
 use Rattle.pws_mark.specs.Bindings.{Bindings, element_name, declared_prefix}
-use Rattle.pws_mark.specs.Canonical.{text_byte, name_text, attr_text, declaration_word, declaration_text, declarations_text, start_text, end_text, nodes_text, spaces_of}
+use Rattle.pws_mark.specs.Canonical.{text_byte, name_text, attr_text, declaration_word, declaration_text, declarations_text, start_text, end_text, nodes_text, spaces_of, canonical}
 use Rattle.pws_mark.specs.Tokens.{is_name}
 use Rattle.pws_mark.specs.CanonicalTexts.{CanonicalTellsApart}
 use Rattle.pws_mark.proofs.PrefixTexts.{name_chars, ascii_spelled}
@@ -290,5 +290,4 @@ apart_with x y t u h g e =
     few_of z low = omega arith
 
 pub apart : CanonicalTellsApart
-apart t u h g short e =
-    apart_with (spaces_of t) (spaces_of u) t u (good_tree t h short) (good_tree u g (omega (arith, ap length e))) e
+apart t u h g short = (λ e. apart_with (spaces_of t) (spaces_of u) t u (good_tree t h short) (good_tree u g (omega (arith, ap length e))) e, ap canonical)

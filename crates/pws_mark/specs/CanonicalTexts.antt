@@ -1,5 +1,5 @@
--- The canonical text of a lawful tree stands for that tree; texts are UTF-8.
-use Rattle.std.specs.Prelude.{◌≡◌, ℕ, ◌^◌, ◌<◌, ◌≤◌, List, length, IsTrue, Ok}
+-- The canonical text of a lawful tree stands for that tree, and no other tree has it; texts are UTF-8.
+use Rattle.std.specs.Prelude.{◌≡◌, ◌↔◌, ℕ, ◌^◌, ◌<◌, ◌≤◌, List, length, IsTrue, Ok}
 use Rattle.std.specs.Str.{IsUtf8}
 use Rattle.pws_tree.specs.Lawful.{is_lawful}
 use Rattle.pws_tree.specs.Trees.{Tree}
@@ -15,9 +15,9 @@ CanonicalStands = (t : Tree) → IsTrue (is_lawful t) → length (canonical t) <
 abbrev pub CanonicalMayBeRead : Type 0
 CanonicalMayBeRead = (t : Tree) → IsTrue (is_lawful t) → length (canonical t) ≤ 32768 → Reads (canonical t) (Ok t)
 
--- two trees with one canonical text are the same
+-- two trees have one canonical text exactly where they are the same
 abbrev pub CanonicalTellsApart : Type 0
-CanonicalTellsApart = (t u : Tree) → IsTrue (is_lawful t) → IsTrue (is_lawful u) → length (canonical t) < 2 ^ 64 → canonical t ≡ canonical u → t ≡ u
+CanonicalTellsApart = (t u : Tree) → IsTrue (is_lawful t) → IsTrue (is_lawful u) → length (canonical t) < 2 ^ 64 → (canonical t ≡ canonical u) ↔ (t ≡ u)
 
 -- each text of the grammar is UTF-8
 abbrev pub TextsAreUtf8 : Type 0

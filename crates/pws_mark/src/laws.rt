@@ -1,4 +1,4 @@
-//! What holds of the canonical text of every tree. The functions do nothing: their contracts are the laws.
+//! Laws of the canonical text, and of what texts stand for. The functions do nothing: their contracts are the laws.
 
 ghost use Rattle.pws_mark.specs.CanonicalTexts.{CanonicalStands, CanonicalMayBeRead, CanonicalTellsApart, TextsAreUtf8};
 ghost use Rattle.pws_mark.specs.LawfulMeanings.{MeaningsAreLawful};
@@ -14,7 +14,7 @@ pub fn canonical_may_be_read()
     ensures { CanonicalMayBeRead }
 {}
 
-/// Two lawful trees with one canonical text are the same.
+/// Two lawful trees have one canonical text exactly where they are the same.
 pub fn canonical_tells_apart()
     ensures { CanonicalTellsApart }
 {}
