@@ -61,7 +61,7 @@ char_spelled c = by (leb_tells 128 c)
     by (inl p) = plain_all (encode c) (high c p.1) ∙ sym (wide c p.1)
     by (inr p) = ap (flat_map text_byte) (encode_ascii c p.1) ∙ ascii c p.1
 
-chars_spelled : (cs : List ℕ) → flat_map text_byte (encodes cs) ≡ flat_map spell_piece (map text_piece cs)
+pub chars_spelled : (cs : List ℕ) → flat_map text_byte (encodes cs) ≡ flat_map spell_piece (map text_piece cs)
 chars_spelled [] = refl
 chars_spelled (c ∷ cs) = flat_map-append text_byte (encode c) (encodes cs) ∙ (ap (λ z. z ++ flat_map text_byte (encodes cs)) (char_spelled c) ∙ ap (λ z. spell_piece (text_piece c) ++ z) (chars_spelled cs))
 

@@ -25,7 +25,7 @@ unfolding content_of
 spelled_of [] = refl
 spelled_of (c ∷ cs) = ap (λ z. spell_piece (text_piece c) ++ z) (spelled_of cs)
 
-lawful_piece : (c : ℕ) → is_xml_char c ≡ true → is_piece is_text_char (text_piece c) ≡ true
+pub lawful_piece : (c : ℕ) → is_xml_char c ≡ true → is_piece is_text_char (text_piece c) ≡ true
 unfolding is_name name_start_ranges name_more_ranges
 lawful_piece c h = by (c == 38) (c == 60) (c == 62) (c == 13) (λ s t. ap (λ z. z && (not (c == 60) && not (c == 38))) h ∙ (ap (λ z. not z && not (c == 38)) t ∙ ap not s))
   where
@@ -84,7 +84,7 @@ lawful_of (c ∷ cs) h =
     join true true d x y z = cc
     join false b d x y z = cc
 
-read_char : (c : ℕ) → piece_char (text_piece c) ≡ Some c
+pub read_char : (c : ℕ) → piece_char (text_piece c) ≡ Some c
 unfolding entity_char number_of xml_ranges
 read_char c = by (c == 38) (c == 60) (c == 62) (c == 13) (eqb-true c 38) (eqb-true c 60) (eqb-true c 62) (eqb-true c 13)
   where
@@ -95,7 +95,7 @@ read_char c = by (c == 38) (c == 60) (c == 62) (c == 13) (eqb-true c 38) (eqb-tr
     by false false false true a b d e = ap (λ z. Some z) (sym (e refl))
     by false false false false a b d e = refl
 
-no_return : (c : ℕ) → is_char 13 (text_piece c) ≡ false
+pub no_return : (c : ℕ) → is_char 13 (text_piece c) ≡ false
 no_return c = by (c == 38) (c == 60) (c == 62) (c == 13) (λ e. ne_eqb 13 c (λ same. eqb-false c 13 e (sym same)))
   where
     by : (s t u v : Bool) → (v ≡ false → (13 == c) ≡ false) → is_char 13 (if s then Entity (codes "amp") else if t then Entity (codes "lt") else if u then Entity (codes "gt") else if v then Decimal (codes "13") else Char c) ≡ false

@@ -59,7 +59,7 @@ char_spelled c = by (leb_tells 128 c)
     by (inl p) = plain_all (encode c) (high c p.1) ∙ sym (wide c p.1)
     by (inr p) = ap (flat_map value_byte) (encode_ascii c p.1) ∙ ascii c p.1
 
-chars_spelled : (cs : List ℕ) → flat_map value_byte (encodes cs) ≡ flat_map spell_piece (map value_piece cs)
+pub chars_spelled : (cs : List ℕ) → flat_map value_byte (encodes cs) ≡ flat_map spell_piece (map value_piece cs)
 chars_spelled [] = refl
 chars_spelled (c ∷ cs) = flat_map-append value_byte (encode c) (encodes cs) ∙ (ap (λ z. z ++ flat_map value_byte (encodes cs)) (char_spelled c) ∙ ap (λ z. spell_piece (value_piece c) ++ z) (chars_spelled cs))
 
@@ -76,7 +76,7 @@ lawful_piece c h = by (c == 38) (c == 60) (c == 34) (c == 9) (c == 10) (c == 13)
     by false false false false false true g = refl
     by false false false false false false g = g refl refl refl
 
-read_char : (c : ℕ) → piece_char (value_piece c) ≡ Some c
+pub read_char : (c : ℕ) → piece_char (value_piece c) ≡ Some c
 unfolding entity_char number_of xml_ranges
 read_char c = by (c == 38) (c == 60) (c == 34) (c == 9) (c == 10) (c == 13) (eqb-true c 38) (eqb-true c 60) (eqb-true c 34) (eqb-true c 9) (eqb-true c 10) (eqb-true c 13)
   where
@@ -125,7 +125,7 @@ not_13 c = by (c == 38) (c == 60) (c == 34) (c == 9) (c == 10) (c == 13) (λ e. 
     by false false false false false true g = refl
     by false false false false false false g = g refl
 
-lawful_all : (cs : List ℕ) → list_all is_xml_char cs ≡ true → list_all (is_piece (is_value_char 34)) (map value_piece cs) ≡ true
+pub lawful_all : (cs : List ℕ) → list_all is_xml_char cs ≡ true → list_all (is_piece (is_value_char 34)) (map value_piece cs) ≡ true
 lawful_all [] h = refl
 lawful_all (c ∷ cs) h = both (is_piece (is_value_char 34) (value_piece c)) (list_all (is_piece (is_value_char 34)) (map value_piece cs)) (lawful_piece c (first (is_xml_char c) (list_all is_xml_char cs) h)) (lawful_all cs (second (is_xml_char c) (list_all is_xml_char cs) h))
   where
@@ -141,7 +141,7 @@ lawful_all (c ∷ cs) h = both (is_piece (is_value_char 34) (value_piece c)) (li
     second true b g = g
     second false b g = cc
 
-value_is : (cs : List ℕ) → value_of (map value_piece cs) ≡ Some (encodes cs)
+pub value_is : (cs : List ℕ) → value_of (map value_piece cs) ≡ Some (encodes cs)
 value_is [] = refl
 value_is (c ∷ cs) = rw (not_13 c, value_is cs, not_9 c, not_10 c, read_char c)
 

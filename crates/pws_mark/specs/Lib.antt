@@ -1,6 +1,7 @@
 pub mod Beginnings
 pub mod Bindings
 pub mod Canonical
+pub mod CanonicalTexts
 pub mod Causes
 pub mod CharacterTable
 pub mod Digits
@@ -8,6 +9,7 @@ pub mod Documents
 pub mod Examples
 pub mod Faults
 pub mod Grammar
+pub mod LawfulMeanings
 pub mod Meaning
 pub mod Places
 pub mod Reading

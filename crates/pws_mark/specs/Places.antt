@@ -4,7 +4,7 @@ use Rattle.std.specs.List.{list_any, starts_with}
 use Rattle.pws_mark.specs.Documents.{Content, Nothing, Text, Section, Comment, Hollow, Element, Document, spell_piece, spell_content, spell_head, spell_prolog, section_start, section_end, comment_start, comment_end, byte_order_mark}
 use Rattle.pws_mark.specs.Faults.{open_length, close_length}
 
--- where the comments and CDATA sections of content are, each from behind its first mark to its end
+-- where the comments and CDATA sections of content are, each from behind what opens it to its end
 abbrev pub spans : ℕ → Content → List (ℕ × ℕ)
 spans at Nothing = []
 spans at (Text piece rest) = spans (at + length (spell_piece piece)) rest

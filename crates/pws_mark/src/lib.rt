@@ -3,6 +3,7 @@
 //! - `errors` tells what is refused in a text, and where.
 //! - `spaces` lists the namespaces that a tree uses, in order of first use.
 //! - `writing` writes the canonical text of a tree.
+//! - `laws` has what holds of canonical texts, and of what texts stand for.
 //!
 //! Reading isn't built yet: `errors` has what it will answer, and only its definitions are here, in specs/. There
 //! `Documents` has the documents and their spelling, `Digits`, `Tokens`, `Grammar` and `Beginnings` tell which are in the
@@ -10,11 +11,12 @@
 //! `Places` and `Causes` what refuses a text, `Reading` what reading has to answer, and `Canonical` the text that is
 //! written.
 //!
-//! The one contract so far: `write_element` gives the canonical text, `canonical`, of the tree. Nothing stands on this
-//! layer yet; the layer of envelopes will.
+//! The one contract so far: `write_element` gives the canonical text, `canonical`, of the tree. By the laws it stands
+//! for that tree, and no other tree has it. Nothing stands on this layer yet; the layer of envelopes will.
 #![tactic(auto)]
 
 pub mod errors;
+pub mod laws;
 mod spaces;
 #[cfg(test)]
 mod tests;
