@@ -9,8 +9,14 @@ pub mod Examples
 pub mod Faults
 pub mod Grammar
 pub mod Meaning
+pub mod Noted
 pub mod Places
+pub mod ReaderLaws
 pub mod Reading
+pub mod Scan
+pub mod Spelling
+pub mod States
 pub mod Texts
+pub mod TokenLaws
 pub mod Tokens
 pub mod Values

@@ -15,6 +15,7 @@
 #![tactic(auto)]
 
 pub mod errors;
+pub mod modes;
 mod spaces;
 #[cfg(test)]
 mod tests;
