@@ -7,13 +7,15 @@ use Rattle.pws_tree.specs.declared.texts.Name.{Name}
 use Rattle.std.specs.Str.{bytes_eq}
 use Rattle.pws_mark.specs.Bindings.{Bindings, written_prefix, has_two_colons, is_bound, element_name, attribute_name, same_name, is_wrong_declaration}
 use Rattle.pws_mark.specs.Faults.{Fault, is_wrong_name, first_place, is_value_name}
-use Rattle.pws_mark.specs.Scan.{ReferenceStep, MoreReference, DoneReference, reference_step, step, then_run}
+use Rattle.pws_mark.specs.Scan.{reference_step, step}
 use Rattle.pws_mark.specs.States.{Open, Outer, State, bound_at, prefix_declared, read_bound, word_of}
 use Rattle.pws_mark.specs.Values.{Marked, letters}
 use Rattle.pws_mark.specs.declared.errors.MarkKind.{MarkKind}
 use Rattle.pws_mark.specs.declared.errors.MarkKind.TheVariants as kind
 use Rattle.pws_mark.specs.declared.modes.ReadAttribute.{ReadAttribute}
 use Rattle.pws_mark.specs.declared.modes.ReadTag.{ReadTag}
+use Rattle.pws_mark.specs.declared.modes.ReferenceStep.{ReferenceStep}
+use Rattle.pws_mark.specs.declared.modes.ReferenceStep.TheVariants as stepped
 use Rattle.pws_mark.specs.declared.modes.Mode.{Mode}
 use Rattle.pws_mark.specs.declared.modes.Mode.TheVariants as mode
 
@@ -71,8 +73,8 @@ depth_finds o at c = if_found (is_name_start c && nat_le 64 (length o.opens)) ki
 
 abbrev pub reference_finds : ℕ → Option ReferenceStep → List (MarkKind × ℕ)
 reference_finds at None = []
-reference_finds at (Some (MoreReference r)) = []
-reference_finds at (Some (DoneReference c)) = if_found (is_none c) kind.Entity at
+reference_finds at (Some (stepped.More r)) = []
+reference_finds at (Some (stepped.Done c)) = if_found (is_none c) kind.Entity at
 
 -- what this character, where it is taken, shows to be refused
 unfoldable pub finds : Mode → Outer → ℕ → List (MarkKind × ℕ)

@@ -11,11 +11,13 @@ use Rattle.pws_mark.specs.Faults.{faults}
 use Rattle.pws_mark.specs.Meaning.{in_order, meaning}
 use Rattle.pws_mark.specs.Noted.{noted, SameFaults}
 use Rattle.pws_mark.specs.Places.{is_inside}
-use Rattle.pws_mark.specs.Scan.{Region, Before, Inside, Behind, region, step, run, start, is_whole, is_within}
+use Rattle.pws_mark.specs.Scan.{region, step, run, start, is_whole, is_within}
 use Rattle.pws_mark.specs.Spelling.{write}
 use Rattle.pws_mark.specs.States.{Outer, State}
 use Rattle.pws_mark.specs.declared.modes.Event.{Event}
 use Rattle.pws_mark.specs.declared.modes.Event.TheVariants as event
+use Rattle.pws_mark.specs.declared.modes.Region.{Region}
+use Rattle.pws_mark.specs.declared.modes.Region.TheVariants as region_is
 use Rattle.pws_mark.specs.declared.modes.Mode.{Mode}
 use Rattle.pws_mark.specs.declared.modes.Mode.TheVariants as mode
 
@@ -59,7 +61,7 @@ is_early_in mode.Dash = true
 is_early_in _ = false
 
 abbrev pub is_before : Region → Bool
-is_before Before = true
+is_before region_is.Before = true
 is_before _ = false
 
 abbrev pub is_early : State → Bool

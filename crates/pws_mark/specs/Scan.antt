@@ -10,6 +10,10 @@ use Rattle.pws_mark.specs.States.{Open, Outer, State, started, hollowed, ended, 
 use Rattle.pws_mark.specs.Tokens.{is_white, is_quote, is_text_char, is_value_char}
 use Rattle.pws_mark.specs.declared.modes.Reference.{Reference}
 use Rattle.pws_mark.specs.declared.modes.Reference.TheVariants as reference
+use Rattle.pws_mark.specs.declared.modes.ReferenceStep.{ReferenceStep}
+use Rattle.pws_mark.specs.declared.modes.ReferenceStep.TheVariants as stepped
+use Rattle.pws_mark.specs.declared.modes.Region.{Region}
+use Rattle.pws_mark.specs.declared.modes.Region.TheVariants as region_is
 use Rattle.pws_mark.specs.declared.modes.Part.{Part}
 use Rattle.pws_mark.specs.declared.modes.Part.TheVariants as part
 use Rattle.pws_mark.specs.declared.modes.Literal.{Literal}
@@ -23,11 +27,6 @@ use Rattle.pws_mark.specs.declared.modes.ReadValue.{ReadValue}
 use Rattle.pws_mark.specs.declared.modes.Mode.{Mode}
 use Rattle.pws_mark.specs.declared.modes.Mode.TheVariants as mode
 
--- a reference goes on, or is complete and stands for a character, or for none
-pub data ReferenceStep : Type 0 where
-  MoreReference : Reference → ReferenceStep
-  DoneReference : Option ℕ → ReferenceStep
-
 -- no XML character has this number or one above it
 abbrev pub capped : ℕ → ℕ
 capped n = if nat_le 0x110000 n then 0x110000 else n
@@ -37,27 +36,27 @@ number_step base n c = capped (n * base + digit_number c)
 
 unfoldable pub reference_step : Reference → ℕ → Option ReferenceStep
 reference_step reference.Begun c =
-    if is_name_start c then Some (MoreReference (reference.Entity (c ∷ []) false))
-    else if c == 35 then Some (MoreReference reference.Number)
+    if is_name_start c then Some (stepped.More (reference.Entity (c ∷ []) false))
+    else if c == 35 then Some (stepped.More reference.Number)
     else None
-reference_step (reference.Entity name true) c = if is_name_start c then Some (MoreReference (reference.Entity (name ++ c ∷ []) false)) else None
+reference_step (reference.Entity name true) c = if is_name_start c then Some (stepped.More (reference.Entity (name ++ c ∷ []) false)) else None
 reference_step (reference.Entity name false) c =
-    if is_name_char c then Some (MoreReference (reference.Entity (name ++ c ∷ []) false))
-    else if c == 58 then Some (MoreReference (reference.Entity (name ++ c ∷ []) true))
-    else if c == 59 then Some (DoneReference (entity_char name))
+    if is_name_char c then Some (stepped.More (reference.Entity (name ++ c ∷ []) false))
+    else if c == 58 then Some (stepped.More (reference.Entity (name ++ c ∷ []) true))
+    else if c == 59 then Some (stepped.Done (entity_char name))
     else None
 reference_step reference.Number c =
-    if is_digit c then Some (MoreReference (reference.Decimal (number_step 10 0 c)))
-    else if c == 120 then Some (MoreReference reference.HexadecimalBegun)
+    if is_digit c then Some (stepped.More (reference.Decimal (number_step 10 0 c)))
+    else if c == 120 then Some (stepped.More reference.HexadecimalBegun)
     else None
-reference_step reference.HexadecimalBegun c = if is_hexadecimal c then Some (MoreReference (reference.Hexadecimal (number_step 16 0 c))) else None
+reference_step reference.HexadecimalBegun c = if is_hexadecimal c then Some (stepped.More (reference.Hexadecimal (number_step 16 0 c))) else None
 reference_step (reference.Decimal n) c =
-    if is_digit c then Some (MoreReference (reference.Decimal (number_step 10 n c)))
-    else if c == 59 then Some (DoneReference (char_at n))
+    if is_digit c then Some (stepped.More (reference.Decimal (number_step 10 n c)))
+    else if c == 59 then Some (stepped.Done (char_at n))
     else None
 reference_step (reference.Hexadecimal n) c =
-    if is_hexadecimal c then Some (MoreReference (reference.Hexadecimal (number_step 16 n c)))
-    else if c == 59 then Some (DoneReference (char_at n))
+    if is_hexadecimal c then Some (stepped.More (reference.Hexadecimal (number_step 16 n c)))
+    else if c == 59 then Some (stepped.Done (char_at n))
     else None
 
 -- the words of a declaration
@@ -147,6 +146,10 @@ Next = Option (Mode × Outer)
 abbrev pub to : Outer → Mode → Option (Mode × Outer)
 to o m = Some (m, o)
 
+-- what is around stays
+abbrev pub stays : Outer → Option Mode → Option (Mode × Outer)
+stays o m = option_map (λ x. (x, o)) m
+
 -- how many of two marks side by side stand there, behind this character
 abbrev pub marks_after : ℕ → ℕ → ℕ → ℕ
 marks_after mark n c = if c == mark then (if n == 2 then 2 else n + 1) else 0
@@ -156,15 +159,10 @@ abbrev pub tag_begins : ℕ → ℕ → Mode
 tag_begins at c = mode.TagName (record { at = at; name = c ∷ []; attributes = [] }) false
 
 -- before the element, or inside it, or behind it
-pub data Region : Type 0 where
-  Before : Region
-  Inside : Region
-  Behind : Region
-
 abbrev pub region_in : List Open → Bool → Region
-region_in [] false = Before
-region_in [] true = Behind
-region_in (x ∷ xs) behind = Inside
+region_in [] false = region_is.Before
+region_in [] true = region_is.Behind
+region_in (x ∷ xs) behind = region_is.Inside
 
 abbrev pub region : Outer → Region
 region o = region_in o.opens o.behind
@@ -174,7 +172,7 @@ abbrev pub text_bytes : Bool → ℕ → List ℕ
 text_bytes after_return c = if c == 13 then 10 ∷ [] else if after_return && c == 10 then [] else encode_utf8 c
 
 abbrev pub content_step : Region → Outer → ℕ → ℕ → Bool → ℕ → Next
-content_step Inside o at n after_return c =
+content_step region_is.Inside o at n after_return c =
     if is_text_char c && not (n == 2 && c == 62) then to (taken o at (Some c) (text_bytes after_return c)) (mode.Content (marks_after 93 n c) (c == 13))
     else if c == 60 then to o (mode.Opened at)
     else if c == 38 then to o (mode.TextReference at reference.Begun)
@@ -185,37 +183,37 @@ content_step _ o at n after_return c =
     else None
 
 -- behind a < that stands at this place
-abbrev pub opened_step : Region → Outer → ℕ → ℕ → Next
-opened_step Before o at c =
-    if is_name_start c then to o (tag_begins at c)
-    else if c == 33 then to o mode.Bang
+abbrev pub opened_step : Region → ℕ → ℕ → Option Mode
+opened_step region_is.Before at c =
+    if is_name_start c then Some (tag_begins at c)
+    else if c == 33 then Some mode.Bang
     else None
-opened_step Inside o at c =
-    if is_name_start c then to o (tag_begins at c)
-    else if c == 33 then to o mode.Bang
-    else if c == 47 then to o (mode.EndName 0)
+opened_step region_is.Inside at c =
+    if is_name_start c then Some (tag_begins at c)
+    else if c == 33 then Some mode.Bang
+    else if c == 47 then Some (mode.EndName 0)
     else None
-opened_step Behind o at c = if c == 33 then to o mode.Bang else None
+opened_step region_is.Behind at c = if c == 33 then Some mode.Bang else None
 
-abbrev pub bang_step : Region → Outer → ℕ → Next
-bang_step Inside o c =
-    if c == 45 then to o mode.Dash
-    else if c == 91 then to o (mode.SectionWord 0)
+abbrev pub bang_step : Region → ℕ → Option Mode
+bang_step region_is.Inside c =
+    if c == 45 then Some mode.Dash
+    else if c == 91 then Some (mode.SectionWord 0)
     else None
-bang_step _ o c = if c == 45 then to o mode.Dash else None
+bang_step _ c = if c == 45 then Some mode.Dash else None
 
-abbrev pub comment_step : Outer → ℕ → ℕ → Next
-comment_step o n c =
-    if n == 2 then (if c == 62 then to o (mode.Content 0 false) else None)
-    else if is_xml_char c then to o (mode.Comment (marks_after 45 n c))
+abbrev pub comment_step : ℕ → ℕ → Option Mode
+comment_step n c =
+    if n == 2 then (if c == 62 then Some (mode.Content 0 false) else None)
+    else if is_xml_char c then Some (mode.Comment (marks_after 45 n c))
     else None
 
 unfoldable pub section_word : List ℕ
 section_word = codes "CDATA["
 
-abbrev pub section_word_step : Outer → ℕ → ℕ → Next
-section_word_step o n c =
-    if has_at section_word n c then to o (if n == 5 then mode.Section 0 false else mode.SectionWord (n + 1))
+abbrev pub section_word_step : ℕ → ℕ → Option Mode
+section_word_step n c =
+    if has_at section_word n c then Some (if n == 5 then mode.Section 0 false else mode.SectionWord (n + 1))
     else None
 
 -- brackets that stand before this place are text, as the section goes on
@@ -258,27 +256,27 @@ in_tag_step o at tag spaced c =
     if spaced && is_name_start c then to o (mode.AttributeName tag (record { at = at; name = c ∷ [] }) false)
     else tag_step o tag c
 
-abbrev pub attribute_name_step : Outer → ReadTag → ReadName → Bool → ℕ → Next
-attribute_name_step o tag name true c =
-    if is_name_start c then to o (mode.AttributeName tag (record { at = name.at; name = name.name ++ c ∷ [] }) false)
+abbrev pub attribute_name_step : ReadTag → ReadName → Bool → ℕ → Option Mode
+attribute_name_step tag name true c =
+    if is_name_start c then Some (mode.AttributeName tag (record { at = name.at; name = name.name ++ c ∷ [] }) false)
     else None
-attribute_name_step o tag name false c =
-    if is_name_char c then to o (mode.AttributeName tag (record { at = name.at; name = name.name ++ c ∷ [] }) false)
-    else if c == 58 then to o (mode.AttributeName tag (record { at = name.at; name = name.name ++ c ∷ [] }) true)
-    else if is_white c then to o (mode.BeforeEquals tag name)
-    else if c == 61 then to o (mode.AfterEquals tag name)
-    else None
-
-abbrev pub before_equals_step : Outer → ReadTag → ReadName → ℕ → Next
-before_equals_step o tag name c =
-    if is_white c then to o (mode.BeforeEquals tag name)
-    else if c == 61 then to o (mode.AfterEquals tag name)
+attribute_name_step tag name false c =
+    if is_name_char c then Some (mode.AttributeName tag (record { at = name.at; name = name.name ++ c ∷ [] }) false)
+    else if c == 58 then Some (mode.AttributeName tag (record { at = name.at; name = name.name ++ c ∷ [] }) true)
+    else if is_white c then Some (mode.BeforeEquals tag name)
+    else if c == 61 then Some (mode.AfterEquals tag name)
     else None
 
-abbrev pub after_equals_step : Outer → ReadTag → ReadName → ℕ → Next
-after_equals_step o tag name c =
-    if is_white c then to o (mode.AfterEquals tag name)
-    else if is_quote c then to o (mode.Value tag name (record { quote = c; text = Some []; after_return = false }))
+abbrev pub before_equals_step : ReadTag → ReadName → ℕ → Option Mode
+before_equals_step tag name c =
+    if is_white c then Some (mode.BeforeEquals tag name)
+    else if c == 61 then Some (mode.AfterEquals tag name)
+    else None
+
+abbrev pub after_equals_step : ReadTag → ReadName → ℕ → Option Mode
+after_equals_step tag name c =
+    if is_white c then Some (mode.AfterEquals tag name)
+    else if is_quote c then Some (mode.Value tag name (record { quote = c; text = Some []; after_return = false }))
     else None
 
 -- how a character of a value is kept (XML 1.0 fifth edition, sections 2.11 and 3.3.3)
@@ -303,20 +301,20 @@ with_attribute tag name v = record {
   attributes = tag.attributes ++ record { name = name.name; at = name.at; value = v.text } ∷ [];
 }
 
-abbrev pub value_step : Outer → ℕ → ReadTag → ReadName → ReadValue → ℕ → Next
-value_step o at tag name v c =
-    if is_value_char v.quote c then to o (mode.Value tag name (value_with v c))
-    else if c == 38 then to o (mode.ValueReference tag name v at reference.Begun)
-    else if c == v.quote then to o (mode.InTag (with_attribute tag name v) false)
+abbrev pub value_step : ℕ → ReadTag → ReadName → ReadValue → ℕ → Option Mode
+value_step at tag name v c =
+    if is_value_char v.quote c then Some (mode.Value tag name (value_with v c))
+    else if c == 38 then Some (mode.ValueReference tag name v at reference.Begun)
+    else if c == v.quote then Some (mode.InTag (with_attribute tag name v) false)
     else None
 
-abbrev pub in_value : Outer → ReadTag → ReadName → ReadValue → ℕ → ReferenceStep → Next
-in_value o tag name v at (MoreReference r) = to o (mode.ValueReference tag name v at r)
-in_value o tag name v at (DoneReference c) = to o (mode.Value tag name (value_with_reference v c))
+abbrev pub in_value : ReadTag → ReadName → ReadValue → ℕ → ReferenceStep → Mode
+in_value tag name v at (stepped.More r) = mode.ValueReference tag name v at r
+in_value tag name v at (stepped.Done c) = mode.Value tag name (value_with_reference v c)
 
 abbrev pub in_text : Outer → ℕ → ReferenceStep → Next
-in_text o at (MoreReference r) = to o (mode.TextReference at r)
-in_text o at (DoneReference c) = to (taken o at c (char_text c)) (mode.Content 0 false)
+in_text o at (stepped.More r) = to o (mode.TextReference at r)
+in_text o at (stepped.Done c) = to (taken o at c (char_text c)) (mode.Content 0 false)
 
 abbrev pub either : {A : Type 0} → Option A → (A → Next) → Next
 either None more = None
@@ -338,42 +336,42 @@ end_gap_step o (x ∷ xs) c =
     else if c == 62 then to (ended x xs o.events o.text) (mode.Content 0 false)
     else None
 
-abbrev pub start_step : Outer → ℕ → Bool → ℕ → Next
-start_step o at marked c =
-    if is_white c then to o (mode.Content 0 false)
-    else if c == 60 then to o (mode.HeadOpened at)
-    else if marked && c == 0xFEFF then to o (mode.Start false)
+abbrev pub start_step : ℕ → Bool → ℕ → Option Mode
+start_step at marked c =
+    if is_white c then Some (mode.Content 0 false)
+    else if c == 60 then Some (mode.HeadOpened at)
+    else if marked && c == 0xFEFF then Some (mode.Start false)
     else None
 
-abbrev pub head_opened_step : Outer → ℕ → ℕ → Next
-head_opened_step o at c =
-    if c == 63 then to o (mode.Declaring (declaring.Word 0))
-    else opened_step Before o at c
+abbrev pub head_opened_step : ℕ → ℕ → Option Mode
+head_opened_step at c =
+    if c == 63 then Some (mode.Declaring (declaring.Word 0))
+    else opened_step region_is.Before at c
 
-abbrev pub in_declaration : Outer → Option Declaring → Next
-in_declaration o None = to o (mode.Content 0 false)
-in_declaration o (Some d) = to o (mode.Declaring d)
+abbrev pub in_declaration : Option Declaring → Mode
+in_declaration None = mode.Content 0 false
+in_declaration (Some d) = mode.Declaring d
 
 unfoldable pub next : Mode → Outer → ℕ → ℕ → Next
-next (mode.Start marked) o at c = start_step o at marked c
-next (mode.HeadOpened place) o at c = head_opened_step o place c
-next (mode.Declaring d) o at c = either (declaring_step d c) (in_declaration o)
+next (mode.Start marked) o at c = stays o (start_step at marked c)
+next (mode.HeadOpened place) o at c = stays o (head_opened_step place c)
+next (mode.Declaring d) o at c = stays o (option_map in_declaration (declaring_step d c))
 next (mode.Content n after_return) o at c = content_step (region o) o at n after_return c
 next (mode.TextReference place r) o at c = either (reference_step r c) (in_text o place)
-next (mode.Opened place) o at c = opened_step (region o) o place c
-next mode.Bang o at c = bang_step (region o) o c
-next mode.Dash o at c = if c == 45 then to o (mode.Comment 0) else None
-next (mode.Comment n) o at c = comment_step o n c
-next (mode.SectionWord n) o at c = section_word_step o n c
+next (mode.Opened place) o at c = stays o (opened_step (region o) place c)
+next mode.Bang o at c = stays o (bang_step (region o) c)
+next mode.Dash o at c = stays o (if c == 45 then Some (mode.Comment 0) else None)
+next (mode.Comment n) o at c = stays o (comment_step n c)
+next (mode.SectionWord n) o at c = stays o (section_word_step n c)
 next (mode.Section n after_return) o at c = section_step o at n after_return c
 next (mode.TagName tag starts) o at c = tag_name_step o tag starts c
 next (mode.InTag tag spaced) o at c = in_tag_step o at tag spaced c
 next (mode.Slash tag) o at c = if c == 62 then to (hollowed o tag) (mode.Content 0 false) else None
-next (mode.AttributeName tag name starts) o at c = attribute_name_step o tag name starts c
-next (mode.BeforeEquals tag name) o at c = before_equals_step o tag name c
-next (mode.AfterEquals tag name) o at c = after_equals_step o tag name c
-next (mode.Value tag name v) o at c = value_step o at tag name v c
-next (mode.ValueReference tag name v place r) o at c = either (reference_step r c) (in_value o tag name v place)
+next (mode.AttributeName tag name starts) o at c = stays o (attribute_name_step tag name starts c)
+next (mode.BeforeEquals tag name) o at c = stays o (before_equals_step tag name c)
+next (mode.AfterEquals tag name) o at c = stays o (after_equals_step tag name c)
+next (mode.Value tag name v) o at c = stays o (value_step at tag name v c)
+next (mode.ValueReference tag name v place r) o at c = stays o (option_map (in_value tag name v place) (reference_step r c))
 next (mode.EndName n) o at c = end_name_step o o.opens n c
 next mode.EndGap o at c = end_gap_step o o.opens c
 

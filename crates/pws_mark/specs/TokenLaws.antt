@@ -7,13 +7,15 @@ use Rattle.pws_mark.specs.Faults.{Fault, piece_faults, value_faults, depth_fault
 use Rattle.pws_mark.specs.Grammar.{is_tag, is_declaration}
 use Rattle.pws_mark.specs.Meaning.{char_text}
 use Rattle.pws_mark.specs.Noted.{start_finds, hollow_finds, end_finds, noted}
-use Rattle.pws_mark.specs.Scan.{Region, Before, Inside, Behind, region, text_bytes, marks_after, run, start, outside}
+use Rattle.pws_mark.specs.Scan.{region, text_bytes, marks_after, run, start, outside}
 use Rattle.pws_mark.specs.Spelling.{write_piece, write_tag, write_head}
 use Rattle.pws_mark.specs.States.{Open, Outer, State, started, hollowed, ended, taken}
 use Rattle.pws_mark.specs.Tokens.{is_white, is_piece, is_text_char, is_section, is_comment}
 use Rattle.pws_mark.specs.declared.errors.MarkKind.{MarkKind}
 use Rattle.pws_mark.specs.declared.modes.ReadAttribute.{ReadAttribute}
 use Rattle.pws_mark.specs.declared.modes.ReadTag.{ReadTag}
+use Rattle.pws_mark.specs.declared.modes.Region.{Region}
+use Rattle.pws_mark.specs.declared.modes.Region.TheVariants as region_is
 use Rattle.pws_mark.specs.declared.modes.Mode.{Mode}
 use Rattle.pws_mark.specs.declared.modes.Mode.TheVariants as mode
 
@@ -53,7 +55,7 @@ early_faults level at tag = depth_faults level at tag.name ++ values_faults (at 
 -- a start tag behind its <
 abbrev pub StartsAreTaken : Type 0
 StartsAreTaken =
-    (o : Outer) (at : ℕ) (tag : Tag) → region o ≢ Behind → IsTrue (is_tag tag) →
+    (o : Outer) (at : ℕ) (tag : Tag) → region o ≢ region_is.Behind → IsTrue (is_tag tag) →
     let end = at + (2 + length (spell_tag tag)) in
     Goes (state (at + 1) (mode.Opened at) o) (write_tag tag ++ 62 ∷ []) (state end (mode.Content 0 false) (started o (tag_read at tag)))
     (early_faults (length o.opens) at tag ++ ending end (start_finds o (tag_read at tag)))
@@ -61,7 +63,7 @@ StartsAreTaken =
 -- an empty tag behind its <
 abbrev pub HollowsAreTaken : Type 0
 HollowsAreTaken =
-    (o : Outer) (at : ℕ) (tag : Tag) → region o ≢ Behind → IsTrue (is_tag tag) →
+    (o : Outer) (at : ℕ) (tag : Tag) → region o ≢ region_is.Behind → IsTrue (is_tag tag) →
     let end = at + (3 + length (spell_tag tag)) in
     Goes (state (at + 1) (mode.Opened at) o) (write_tag tag ++ 47 ∷ 62 ∷ []) (state end (mode.Content 0 false) (hollowed o (tag_read at tag)))
     (early_faults (length o.opens) at tag ++ ending end (hollow_finds o (tag_read at tag)))
@@ -85,7 +87,7 @@ piece_bytes after_return piece =
 -- a piece of content
 abbrev pub PiecesAreTaken : Type 0
 PiecesAreTaken =
-    (o : Outer) (at n : ℕ) (after_return : Bool) (piece : Piece) → region o ≡ Inside → IsTrue (is_piece is_text_char piece) → (n == 2 && is_char 62 piece) ≡ false →
+    (o : Outer) (at n : ℕ) (after_return : Bool) (piece : Piece) → region o ≡ region_is.Inside → IsTrue (is_piece is_text_char piece) → (n == 2 && is_char 62 piece) ≡ false →
     let end = at + length (spell_piece piece) in
     Goes (state at (mode.Content n after_return) o) (write_piece piece) (state end (mode.Content (brackets_behind n piece) (is_char 13 piece)) (taken o at (piece_char piece) (piece_bytes after_return piece)))
     (piece_faults at piece)
@@ -97,7 +99,7 @@ all_taken o at after_return (c ∷ cs) = all_taken (taken o at (Some c) (text_by
 
 abbrev pub SectionsAreTaken : Type 0
 SectionsAreTaken =
-    (o : Outer) (at n : ℕ) (after_return : Bool) (chars : List ℕ) → region o ≡ Inside → IsTrue (is_section chars) →
+    (o : Outer) (at n : ℕ) (after_return : Bool) (chars : List ℕ) → region o ≡ region_is.Inside → IsTrue (is_section chars) →
     Goes (state at (mode.Content n after_return) o) (section_start ++ (chars ++ section_end))
     (state (at + length (section_start ++ (encode_utf8_all chars ++ section_end))) (mode.Content 0 false) (all_taken o (at + length section_start) false chars)) []
 

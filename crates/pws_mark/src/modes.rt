@@ -20,6 +20,15 @@ pub enum Reference {
     Hexadecimal(u32),
 }
 
+/// What a character does to a reference.
+#[derive(Drop)]
+pub enum ReferenceStep {
+    /// It goes on.
+    More(Reference),
+    /// It is complete, and stands for a character, or for none.
+    Done(Option<char>),
+}
+
 /// The parts of an XML declaration.
 #[derive(Clone, Copy, PartialEq, Eq)]
 pub enum Part {
@@ -140,6 +149,14 @@ pub enum Mode {
     EndName(usize),
     /// In an end tag, in the white space behind its name.
     EndGap,
+}
+
+/// Where a place stands to the element.
+#[derive(Clone, Copy, PartialEq, Eq)]
+pub enum Region {
+    Before,
+    Inside,
+    Behind,
 }
 
 /// What a text stands for, piece by piece.
