@@ -4,3 +4,4 @@ pub mod Worked
 pub mod Escapes
 pub mod ReadBack
 pub mod ValueReadBack
+pub mod Scalars

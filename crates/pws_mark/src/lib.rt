@@ -16,6 +16,8 @@
 
 pub mod errors;
 pub mod modes;
+mod declaring;
+mod references;
 mod spaces;
 #[cfg(test)]
 mod tests;
