@@ -5,3 +5,4 @@ pub mod Escapes
 pub mod ReadBack
 pub mod ValueReadBack
 pub mod Scalars
+pub mod Letters

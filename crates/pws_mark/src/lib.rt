@@ -17,6 +17,7 @@
 pub mod errors;
 pub mod modes;
 mod declaring;
+mod names;
 mod references;
 mod spaces;
 #[cfg(test)]
