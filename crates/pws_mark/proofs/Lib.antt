@@ -6,3 +6,4 @@ pub mod ReadBack
 pub mod ValueReadBack
 pub mod Scalars
 pub mod Letters
+pub mod Opened

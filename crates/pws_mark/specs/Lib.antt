@@ -14,6 +14,7 @@ pub mod Places
 pub mod ReaderLaws
 pub mod Reading
 pub mod Scan
+pub mod Scopes
 pub mod Spelling
 pub mod States
 pub mod Texts

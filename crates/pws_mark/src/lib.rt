@@ -19,6 +19,7 @@ pub mod modes;
 mod declaring;
 mod names;
 mod references;
+mod scopes;
 mod spaces;
 #[cfg(test)]
 mod tests;
