@@ -2,9 +2,11 @@
 
 ghost use Rattle.std.specs.Prelude.{◌≡◌, ◌++◌, [], ◌∷◌, length, option_map, not, is_none, Some, None, OnOk, IfOk};
 ghost use Rattle.pws_mark.specs.Bindings.{space_at, is_bound, element_name, attribute_name, outermost};
-ghost use Rattle.pws_mark.specs.States.{bound_at, spoiled, is_empty};
-ghost use Rattle.pws_mark.specs.Scopes.{opened};
+ghost use Rattle.std.specs.Option.{is_some};
+ghost use Rattle.pws_mark.specs.States.{bound_at, spoiled, is_empty, with_char};
+ghost use Rattle.pws_mark.specs.Scopes.{opened, word_at, kept, Pops, inside_of, name_has, name_ends};
 
+use crate::declaring::has_at;
 use crate::spaces::XML_SPACE;
 use pws_base::lists::Sequence;
 use pws_base::memory::Memory;
@@ -150,5 +152,104 @@ impl Opens {
             return Some(&self.xml);
         }
         None
+    }
+}
+
+/// The content of `Value` with one more character, at its place, or with what is no character.
+fn with_char(
+    word: Option<Option<Sequence<(char, usize)>>>,
+    at: usize,
+    c: Option<char>,
+) -> Result<Option<Option<Sequence<(char, usize)>>>, Memory>
+    ensures { IfOk result (λ w. w ≡ with_char word at c) }
+{
+    match (word, c) {
+        (Some(Some(mut chars)), Some(c)) => {
+            chars.push((c, at))?;
+            Ok(Some(Some(chars)))
+        }
+        (Some(_), _) => Ok(Some(None)),
+        (None, _) => Ok(None),
+    }
+}
+
+impl Opens {
+    /// Takes the innermost element away.
+    pub fn pop(&mut self) -> Option<OpenElement>
+        ensures { Pops self.old result self.new }
+    {
+        self.items.pop()
+    }
+
+    /// Whether the innermost element is `Value`.
+    pub fn is_word(&self) -> bool
+        ensures { result ≡ is_some (word_at self.now) }
+    {
+        match self.items.last() {
+            Some(element) => element.word.is_some(),
+            None => false,
+        }
+    }
+
+    /// The content of the innermost element can't be a name any more.
+    ///
+    /// # Errors
+    ///
+    /// `Memory` only.
+    pub fn spoil(&mut self) -> Result<(), Memory>
+        ensures { OnOk result (self.new ≡ spoiled self.old) }
+    {
+        if let Some(mut element) = self.pop() {
+            if element.word.is_some() {
+                element.word = Some(None);
+            }
+            self.push(element)?;
+        }
+        Ok(())
+    }
+
+    /// A character of the innermost element, where it is `Value`.
+    ///
+    /// # Errors
+    ///
+    /// `Memory` only.
+    pub fn keep(&mut self, at: usize, c: Option<char>) -> Result<(), Memory>
+        ensures { OnOk result (self.new ≡ kept self.old at c) }
+    {
+        if let Some(element) = self.pop() {
+            let OpenElement {
+                name,
+                at: place,
+                scope,
+                word,
+            } = element;
+            self.push(OpenElement {
+                name,
+                at: place,
+                scope,
+                word: with_char(word, at, c)?,
+            })?;
+        }
+        Ok(())
+    }
+
+    /// Whether this character stands at this place of the innermost element's name.
+    pub fn has_at(&self, place: usize, c: char) -> bool
+        ensures { result ≡ name_has self.now place c }
+    {
+        match self.items.last() {
+            Some(element) => has_at(element.name.as_slice(), place, c),
+            None => false,
+        }
+    }
+
+    /// Whether the innermost element's name has so many characters.
+    pub fn name_ends(&self, place: usize) -> bool
+        ensures { result ≡ name_ends self.now place }
+    {
+        match self.items.last() {
+            Some(element) => element.name.len() == place,
+            None => false,
+        }
     }
 }
