@@ -8,6 +8,7 @@ pub mod Documents
 pub mod Examples
 pub mod Faults
 pub mod Grammar
+pub mod Least
 pub mod Meaning
 pub mod Noted
 pub mod Places

@@ -15,10 +15,12 @@
 #![tactic(auto)]
 
 pub mod errors;
+mod least;
 pub mod modes;
 mod declaring;
 mod names;
 mod references;
+mod resolving;
 mod scopes;
 mod spaces;
 #[cfg(test)]
