@@ -7,3 +7,4 @@ pub mod ValueReadBack
 pub mod Scalars
 pub mod Letters
 pub mod Opened
+pub mod Declared

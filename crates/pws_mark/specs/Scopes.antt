@@ -1,10 +1,14 @@
 -- The open elements, as the reader keeps them: each with the declarations of its own tag. It is here for the proofs
 -- alone: no contract of another crate names it.
-use Rattle.std.specs.Prelude.{◌≡◌, ℕ, Bool, false, ◌==◌, length, List, [], ◌∷◌, ◌++◌, fold, Option, Some, None}
-use Rattle.pws_mark.specs.Bindings.{Bindings}
+use Rattle.std.specs.Prelude.{◌≡◌, ℕ, Bool, false, not, ◌&&◌, ◌==◌, length, filter, List, [], ◌∷◌, ◌++◌, fold, Option, Some, None}
+use Rattle.std.specs.List.{filter_map}
+use Rattle.std.specs.Str.{bytes_eq}
+use Rattle.pws_mark.specs.Bindings.{Bindings, xmlns_word}
+use Rattle.pws_mark.specs.Canonical.{xml_word}
 use Rattle.pws_mark.specs.Scan.{has_at}
-use Rattle.pws_mark.specs.States.{Open, bound_at, with_char}
+use Rattle.pws_mark.specs.States.{Open, bound_at, with_char, read_declared}
 use Rattle.pws_mark.specs.Values.{Marked}
+use Rattle.pws_mark.specs.declared.modes.ReadAttribute.{ReadAttribute}
 use Rattle.pws_mark.specs.declared.scopes.OpenElement.{OpenElement}
 
 abbrev pub opened : List Open → OpenElement → List Open
@@ -41,3 +45,7 @@ name_has (x ∷ xs) n c = has_at x.name n c
 abbrev pub name_ends : List Open → ℕ → Bool
 name_ends [] n = false
 name_ends (x ∷ xs) n = n == length x.name
+
+-- what attributes bind
+abbrev pub own_bound : List ReadAttribute → Bindings
+own_bound attributes = filter (λ b. not (bytes_eq b.0 xml_word) && not (bytes_eq b.0 xmlns_word)) (filter_map read_declared attributes)

@@ -23,6 +23,7 @@ mod references;
 mod resolving;
 mod scopes;
 mod spaces;
+mod tags;
 #[cfg(test)]
 mod tests;
 pub mod writing;
