@@ -4,3 +4,7 @@ pub mod Worked
 pub mod Escapes
 pub mod ReadBack
 pub mod ValueReadBack
+pub mod Going
+pub mod Counted
+pub mod TakesComments
+pub mod TakesEnds

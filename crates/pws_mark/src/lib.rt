@@ -19,6 +19,7 @@ pub mod modes;
 mod spaces;
 #[cfg(test)]
 mod tests;
+mod reader_laws;
 pub mod writing;
 
 ghost use Rattle.pws_mark.specs.Examples.{WorkedTexts};
