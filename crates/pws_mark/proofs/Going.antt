@@ -3,6 +3,7 @@ use Rattle.std.proofs.Common.{◌≡◌, ℕ, ◌+◌, Bool, true, false, List, 
 use Rattle.std.specs.Prelude.{◌==◌, ◌&&◌, if◌then◌else◌, option_map, encode_utf8, encode_utf8_all}
 use Rattle.std.specs.List.{list_all}
 use Rattle.std.proofs.lemmas.Bool.{and_parts, ne_eqb, eqb-true}
+use Rattle.std.proofs.lemmas.Str.{encodes-append}
 use Rattle.pws_tree.specs.Characters.{is_name_start, is_name_char}
 use Rattle.pws_mark.specs.Faults.{Fault}
 use Rattle.pws_mark.specs.Noted.{noted, noted_at, then_noted, finds}
@@ -76,6 +77,26 @@ goes_quietly m n k o p q at c cs fs stepped found more =
     goes_at (state at m o) (c ∷ cs) k q fs (at + length (encode_utf8 c) + length (encode_utf8_all cs)) (at + length (encode_utf8 c ++ encode_utf8_all cs))
     (omega (arith, length-append (encode_utf8 c) (encode_utf8_all cs)))
     (goes_on_to _ _ _ (c ∷ []) cs [] fs (goes_once m n o p at c [] stepped found) more)
+
+-- the same where what comes after is noted at its end
+pub goes_before : (m n k : Mode) (o p q : Outer) (at c : ℕ) (cs : List ℕ) (finding : List (MarkKind × ℕ)) → next m o at c ≡ Some (n, p) → finds m o c ≡ []
+    → Goes (state (at + length (encode_utf8 c)) n p) cs (state (at + length (encode_utf8 c) + length (encode_utf8_all cs)) k q) (ending (at + length (encode_utf8 c) + length (encode_utf8_all cs)) finding)
+    → Goes (state at m o) (c ∷ cs) (state (at + length (encode_utf8 c ++ encode_utf8_all cs)) k q) (ending (at + length (encode_utf8 c ++ encode_utf8_all cs)) finding)
+goes_before m n k o p q at c cs finding stepped found more =
+    goes_until (state at m o) (c ∷ cs) k q finding (at + length (encode_utf8 c) + length (encode_utf8_all cs)) (at + length (encode_utf8 c ++ encode_utf8_all cs))
+    (omega (arith, length-append (encode_utf8 c) (encode_utf8_all cs)))
+    (goes_on_to _ _ _ (c ∷ []) cs [] (ending (at + length (encode_utf8 c) + length (encode_utf8_all cs)) finding) (goes_once m n o p at c [] stepped found) more)
+
+-- characters with nothing to note, and then others
+pub goes_over : (m n k : Mode) (o p q : Outer) (at : ℕ) (xs ys : List ℕ) (finding : List (MarkKind × ℕ))
+    → Goes (state at m o) xs (state (at + length (encode_utf8_all xs)) n p) []
+    → Goes (state (at + length (encode_utf8_all xs)) n p) ys (state (at + length (encode_utf8_all xs) + length (encode_utf8_all ys)) k q) (ending (at + length (encode_utf8_all xs) + length (encode_utf8_all ys)) finding)
+    → Goes (state at m o) (xs ++ ys) (state (at + length (encode_utf8_all (xs ++ ys))) k q) (ending (at + length (encode_utf8_all (xs ++ ys))) finding)
+goes_over m n k o p q at xs ys finding one more =
+    let size : length (encode_utf8_all (xs ++ ys)) ≡ length (encode_utf8_all xs) + length (encode_utf8_all ys) = ap length (encodes-append xs ys) ∙ length-append (encode_utf8_all xs) (encode_utf8_all ys) in
+    goes_until (state at m o) (xs ++ ys) k q finding (at + length (encode_utf8_all xs) + length (encode_utf8_all ys)) (at + length (encode_utf8_all (xs ++ ys)))
+    (omega (arith, size))
+    (goes_on_to _ _ _ xs ys [] (ending (at + length (encode_utf8_all xs) + length (encode_utf8_all ys)) finding) one more)
 
 -- characters of one sort that leave the reader in its mode
 pub goes_round : (m : Mode) (o : Outer) (p : ℕ → Bool) → ((at c : ℕ) → p c ≡ true → next m o at c ≡ Some (m, o)) → ((c : ℕ) → p c ≡ true → finds m o c ≡ []) →

@@ -8,3 +8,4 @@ pub mod Going
 pub mod Counted
 pub mod TakesComments
 pub mod TakesEnds
+pub mod TakesReferences
