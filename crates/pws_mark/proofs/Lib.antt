@@ -9,3 +9,4 @@ pub mod Counted
 pub mod TakesComments
 pub mod TakesEnds
 pub mod TakesReferences
+pub mod TakesPieces
