@@ -10,3 +10,4 @@ pub mod TakesComments
 pub mod TakesEnds
 pub mod TakesReferences
 pub mod TakesPieces
+pub mod TakesSections
