@@ -11,3 +11,5 @@ pub mod TakesEnds
 pub mod TakesReferences
 pub mod TakesPieces
 pub mod TakesSections
+pub mod TakesValues
+pub mod TakesTags
