@@ -193,7 +193,7 @@ value_ends o tag name a at lawful =
     (goes_on_to _ _ _ (flat_map write_piece a.value) (a.quote ∷ []) (value_faults at a.value) [] (value_goes tag name o a.value (no_value a.quote) at lawful.value)
     (closes o tag name v a.quote last (behind_quote a.value (no_value a.quote)) lawful.quote)))
 
-pub attribute_goes : (f : Option Bool) (o : Outer) (tag : ReadTag) (a : Attribute) (at : ℕ) → LawfulAttribute a →
+attribute_goes : (f : Option Bool) (o : Outer) (tag : ReadTag) (a : Attribute) (at : ℕ) → LawfulAttribute a →
     Goes (state at (front f tag) o) (write_attribute a) (state (value_end at a + 1) (mode.InTag (with_read tag (attribute_read at a ∷ [])) false) o) (value_faults (value_place at a) a.value)
 attribute_goes f o tag a at lawful =
     let name = read_name (name_place at a) a.name in
@@ -214,3 +214,114 @@ attribute_goes f o tag a at lawful =
   where
     behind : (xs ys zs : List ℕ) (s t : State) (fs : List Fault) → Goes s ((xs ++ ys) ++ zs) t fs → Goes s (xs ++ (ys ++ zs)) t fs
     behind xs ys zs s t fs h = subst (λ cs. Goes s cs t fs) (append_assoc xs ys zs) h
+
+-- where the reader is behind attributes
+abbrev front_after : Option Bool → List Attribute → Option Bool
+front_after f [] = f
+front_after f (a ∷ more) = front_after (Some false) more
+
+attributes_go : (more : List Attribute) (f : Option Bool) (o : Outer) (tag : ReadTag) (at : ℕ) → list_all is_attribute more ≡ true →
+    Goes (state at (front f tag) o) (flat_map write_attribute more) (state (at + length (flat_map spell_attribute more)) (front (front_after f more) (with_read tag (attributes_read at more))) o) (values_faults at more)
+attributes_go [] f o tag at lawful =
+    subst (λ kept. Goes (state at (front f tag) o) [] (state (at + 0) (front f (record { at = tag.at; name = tag.name; attributes = kept })) o) []) (sym (append-nil tag.attributes))
+    (goes_at (state at (front f tag) o) [] (front f tag) o [] at (at + 0) (omega arith) (goes_nowhere (state at (front f tag) o)))
+attributes_go (a ∷ more) f o tag at lawful =
+    let parts = and_parts (is_attribute a) (list_all is_attribute more) lawful in
+    let a_lawful = lawful_parts a parts.0 in
+    let next_at = at + length (spell_attribute a) in
+    let last = λ (attributes : List ReadAttribute). state (at + length (spell_attribute a ++ flat_map spell_attribute more)) (front (front_after (Some false) more) (record { at = tag.at; name = tag.name; attributes = attributes })) o in
+    let fs = value_faults (value_place at a) a.value ++ values_faults next_at more in
+    subst (λ attributes. Goes (state at (front f tag) o) (write_attribute a ++ flat_map write_attribute more) (last attributes) fs) (append_assoc tag.attributes (attribute_read at a ∷ []) (attributes_read next_at more))
+    (goes_at (state at (front f tag) o) (write_attribute a ++ flat_map write_attribute more) (front (front_after (Some false) more) (with_read (with_read tag (attribute_read at a ∷ [])) (attributes_read next_at more))) o fs (next_at + length (flat_map spell_attribute more)) (at + length (spell_attribute a ++ flat_map spell_attribute more))
+    (omega (arith, length-append (spell_attribute a) (flat_map spell_attribute more)))
+    (goes_on_to _ _ _ (write_attribute a) (flat_map write_attribute more) (value_faults (value_place at a) a.value) (values_faults next_at more)
+    (goes_at (state at (front f tag) o) (write_attribute a) (mode.InTag (with_read tag (attribute_read at a ∷ [])) false) o (value_faults (value_place at a) a.value) (value_end at a + 1) next_at (attribute_size a at a_lawful.quote) (attribute_goes f o tag a at a_lawful))
+    (attributes_go more (Some false) o (with_read tag (attribute_read at a ∷ [])) next_at parts.1)))
+
+abbrev named : ℕ → List ℕ → ReadTag
+named at name = record { at = at; name = name; attributes = [] }
+
+-- the name of a tag, whose first character tells its depth
+tag_name_goes : (o : Outer) (at : ℕ) (name : List ℕ) → region o ≢ region_is.Behind → is_name name ≡ true →
+    Goes (state (at + 1) (mode.Opened at) o) name (state (at + (1 + length (encode_utf8_all name))) (mode.TagName (named at name) false) o) (depth_faults (length o.opens) at name)
+unfolding next finds is_name name_start_ranges name_more_ranges
+tag_name_goes o at [] inside lawful = absurd cc
+tag_name_goes o at (c ∷ cs) inside lawful =
+    let parts = and_parts (is_name_start c) (goes_on false cs) lawful in
+    let deep = if_found (nat_le 64 (length o.opens)) kind.Depth at in
+    let first : Goes (state (at + 1) (mode.Opened at) o) (c ∷ []) (state (at + 1 + length (encode_utf8 c)) (mode.TagName (named at (c ∷ [])) false) o) (ending (at + 1 + length (encode_utf8 c)) deep) =
+      goes_once (mode.Opened at) (mode.TagName (named at (c ∷ [])) false) o o (at + 1) c deep (opens (region o) inside parts.0) (rw parts.0 refl) in
+    let place : at + 1 + length (encode_utf8 c) ≡ at + (1 + length (encode_utf8 c)) = omega arith in
+    let noted_there : ending (at + 1 + length (encode_utf8 c)) deep ≡ depth_faults (length o.opens) at (c ∷ cs) = ap (λ p. ending p deep) place ∙ ending_found (nat_le 64 (length o.opens)) kind.Depth at (at + (1 + length (encode_utf8 c))) in
+    subst (λ fs. Goes (state (at + 1) (mode.Opened at) o) (c ∷ cs) (state (at + (1 + length (encode_utf8 c ++ encode_utf8_all cs))) (mode.TagName (named at (c ∷ cs)) false) o) fs) (append-nil (ending (at + 1 + length (encode_utf8 c)) deep) ∙ noted_there)
+    (goes_at (state (at + 1) (mode.Opened at) o) (c ∷ cs) (mode.TagName (named at (c ∷ cs)) false) o (ending (at + 1 + length (encode_utf8 c)) deep ++ []) (at + 1 + length (encode_utf8 c) + length (encode_utf8_all cs)) (at + (1 + length (encode_utf8 c ++ encode_utf8_all cs)))
+    (omega (arith, length-append (encode_utf8 c) (encode_utf8_all cs)))
+    (goes_on_to _ _ _ (c ∷ []) cs (ending (at + 1 + length (encode_utf8 c)) deep) [] first
+    (goes_names (λ name starts. mode.TagName (named at name) starts) o
+    (λ name p d starts. (rw starts refl, rw (other is_name_start d 62 starts refl) refl))
+    (λ name p d char. (rw char refl, rw (other is_name_char d 62 char refl) refl))
+    (λ name p. (refl, refl)) cs (c ∷ []) false (at + 1 + length (encode_utf8 c)) parts.1)))
+  where
+    opens : (r : Region) → r ≢ region_is.Behind → is_name_start c ≡ true → stays o (opened_step r at c) ≡ Some (mode.TagName (named at (c ∷ [])) false, o)
+    opens region_is.Before not_behind starts = rw starts refl
+    opens region_is.Inside not_behind starts = rw starts refl
+    opens region_is.Behind not_behind starts = absurd (not_behind refl)
+
+-- where the reader is behind what a tag has between its brackets
+abbrev last_front : Tag → Option Bool
+last_front tag = front_behind (front_after None tag.attributes) tag.gap
+
+tag_goes : (o : Outer) (at : ℕ) (tag : Tag) → region o ≢ region_is.Behind → is_tag tag ≡ true →
+    Goes (state (at + 1) (mode.Opened at) o) (write_tag tag) (state (at + (1 + length (spell_tag tag))) (front (last_front tag) (tag_read at tag)) o) (early_faults (length o.opens) at tag)
+tag_goes o at tag not_behind lawful =
+    let one = and_parts (is_name tag.name) (list_all is_attribute tag.attributes && list_all is_white tag.gap) lawful in
+    let two = and_parts (list_all is_attribute tag.attributes) (list_all is_white tag.gap) one.1 in
+    let named_at = at + (1 + length (encode_utf8_all tag.name)) in
+    let gap_at = named_at + length (flat_map spell_attribute tag.attributes) in
+    let gap_bytes = encode_utf8_all tag.gap in
+    let attributes_bytes = flat_map spell_attribute tag.attributes in
+    let fs = depth_faults (length o.opens) at tag.name in
+    let gs = values_faults named_at tag.attributes in
+    goes_at (state (at + 1) (mode.Opened at) o) (write_tag tag) (front (last_front tag) (tag_read at tag)) o (fs ++ gs) (gap_at + length gap_bytes) (at + (1 + length (spell_tag tag)))
+    (omega (arith, length-append (encode_utf8_all tag.name) (attributes_bytes ++ gap_bytes), length-append attributes_bytes gap_bytes))
+    (goes_on_to _ _ _ tag.name (flat_map write_attribute tag.attributes ++ tag.gap) fs gs (tag_name_goes o at tag.name not_behind one.0)
+    (subst (λ hs. Goes (state named_at (mode.TagName (named at tag.name) false) o) (flat_map write_attribute tag.attributes ++ tag.gap) (state (gap_at + length gap_bytes) (front (last_front tag) (tag_read at tag)) o) hs) (append-nil gs)
+    (goes_on_to _ _ _ (flat_map write_attribute tag.attributes) tag.gap gs [] (attributes_go tag.attributes None o (named at tag.name) named_at two.0)
+    (gap_goes (front_after None tag.attributes) o (tag_read at tag) tag.gap gap_at two.1))))
+
+start_ends : (f : Option Bool) (o : Outer) (tag : ReadTag) (at : ℕ) → Goes (state at (front f tag) o) (62 ∷ []) (state (at + 1) (mode.Content 0 false) (started o tag)) (ending (at + 1) (start_finds o tag))
+unfolding next finds encode name_start_ranges name_more_ranges
+start_ends None o tag at = goes_once (mode.TagName tag false) (mode.Content 0 false) o (started o tag) at 62 (start_finds o tag) refl refl
+start_ends (Some true) o tag at = goes_once (mode.InTag tag true) (mode.Content 0 false) o (started o tag) at 62 (start_finds o tag) refl refl
+start_ends (Some false) o tag at = goes_once (mode.InTag tag false) (mode.Content 0 false) o (started o tag) at 62 (start_finds o tag) refl refl
+
+slash_goes : (f : Option Bool) (o : Outer) (tag : ReadTag) (at : ℕ) → Goes (state at (front f tag) o) (47 ∷ []) (state (at + 1) (mode.Slash tag) o) []
+unfolding next finds encode name_start_ranges name_more_ranges
+slash_goes None o tag at = goes_once (mode.TagName tag false) (mode.Slash tag) o o at 47 [] refl refl
+slash_goes (Some true) o tag at = goes_once (mode.InTag tag true) (mode.Slash tag) o o at 47 [] refl refl
+slash_goes (Some false) o tag at = goes_once (mode.InTag tag false) (mode.Slash tag) o o at 47 [] refl refl
+
+hollow_ends : (o : Outer) (tag : ReadTag) (at : ℕ) → Goes (state at (mode.Slash tag) o) (62 ∷ []) (state (at + 1) (mode.Content 0 false) (hollowed o tag)) (ending (at + 1) (hollow_finds o tag))
+unfolding next finds encode
+hollow_ends o tag at = goes_once (mode.Slash tag) (mode.Content 0 false) o (hollowed o tag) at 62 (hollow_finds o tag) refl refl
+
+pub starts_are_taken : StartsAreTaken
+starts_are_taken o at tag not_behind lawful =
+    let fs = early_faults (length o.opens) at tag in
+    let last = at + (1 + length (spell_tag tag)) in
+    subst (λ p. Goes (state (at + 1) (mode.Opened at) o) (write_tag tag ++ 62 ∷ []) (state p (mode.Content 0 false) (started o (tag_read at tag))) (fs ++ ending p (start_finds o (tag_read at tag)))) (one_more at (length (spell_tag tag)))
+    (goes_on_to _ _ _ (write_tag tag) (62 ∷ []) fs (ending (last + 1) (start_finds o (tag_read at tag))) (tag_goes o at tag not_behind lawful) (start_ends (last_front tag) o (tag_read at tag) last))
+  where
+    one_more : (at n : ℕ) → at + (1 + n) + 1 ≡ at + (2 + n)
+    one_more at n = omega arith
+
+pub hollows_are_taken : HollowsAreTaken
+hollows_are_taken o at tag not_behind lawful =
+    let fs = early_faults (length o.opens) at tag in
+    let last = at + (1 + length (spell_tag tag)) in
+    subst (λ p. Goes (state (at + 1) (mode.Opened at) o) (write_tag tag ++ 47 ∷ 62 ∷ []) (state p (mode.Content 0 false) (hollowed o (tag_read at tag))) (fs ++ ending p (hollow_finds o (tag_read at tag)))) (two_more at (length (spell_tag tag)))
+    (goes_on_to _ _ _ (write_tag tag) (47 ∷ 62 ∷ []) fs (ending (last + 1 + 1) (hollow_finds o (tag_read at tag))) (tag_goes o at tag not_behind lawful)
+    (goes_on_to _ _ _ (47 ∷ []) (62 ∷ []) [] (ending (last + 1 + 1) (hollow_finds o (tag_read at tag))) (slash_goes (last_front tag) o (tag_read at tag) last) (hollow_ends o (tag_read at tag) (last + 1))))
+  where
+    two_more : (at n : ℕ) → at + (1 + n) + 1 + 1 ≡ at + (3 + n)
+    two_more at n = omega arith
