@@ -8,3 +8,12 @@ pub mod Scalars
 pub mod Letters
 pub mod Opened
 pub mod Declared
+pub mod Going
+pub mod Counted
+pub mod TakesComments
+pub mod TakesEnds
+pub mod TakesReferences
+pub mod TakesPieces
+pub mod TakesSections
+pub mod TakesValues
+pub mod TakesTags

@@ -10,7 +10,7 @@ use Rattle.pws_mark.specs.Noted.{start_finds, hollow_finds, end_finds, noted}
 use Rattle.pws_mark.specs.Scan.{region, text_bytes, marks_after, run, start, outside}
 use Rattle.pws_mark.specs.Spelling.{write_piece, write_tag, write_head}
 use Rattle.pws_mark.specs.States.{Open, Outer, State, started, hollowed, ended, taken}
-use Rattle.pws_mark.specs.Tokens.{is_white, is_piece, is_text_char, is_section, is_comment}
+use Rattle.pws_mark.specs.Tokens.{is_white, is_name, is_piece, is_text_char, is_section, is_comment}
 use Rattle.pws_mark.specs.declared.errors.MarkKind.{MarkKind}
 use Rattle.pws_mark.specs.declared.modes.ReadAttribute.{ReadAttribute}
 use Rattle.pws_mark.specs.declared.modes.ReadTag.{ReadTag}
@@ -71,7 +71,7 @@ HollowsAreTaken =
 -- an end tag
 abbrev pub EndsAreTaken : Type 0
 EndsAreTaken =
-    (o : Outer) (x : Open) (xs : List Open) (at n : ℕ) (after_return : Bool) (gap : List ℕ) → o.opens ≡ x ∷ xs → IsTrue (list_all is_white gap) →
+    (o : Outer) (x : Open) (xs : List Open) (at n : ℕ) (after_return : Bool) (gap : List ℕ) → o.opens ≡ x ∷ xs → IsTrue (is_name x.name) → IsTrue (list_all is_white gap) →
     let end = at + (3 + length (encode_utf8_all x.name ++ encode_utf8_all gap)) in
     Goes (state at (mode.Content n after_return) o) (60 ∷ 47 ∷ (x.name ++ (gap ++ 62 ∷ []))) (state end (mode.Content 0 false) (ended x xs o.events o.text))
     (ending end (end_finds o.opens))

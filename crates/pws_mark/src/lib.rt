@@ -26,6 +26,7 @@ mod spaces;
 mod tags;
 #[cfg(test)]
 mod tests;
+mod reader_laws;
 pub mod writing;
 
 ghost use Rattle.pws_mark.specs.Examples.{WorkedTexts};

@@ -1,0 +1,49 @@
+//! Laws of the reader.
+
+ghost use Rattle.pws_mark.specs.ReaderLaws.{WritesSpell, PlacesCount};
+ghost use Rattle.pws_mark.specs.TokenLaws.{CommentsAreTaken, EndsAreTaken, StartsAreTaken, HollowsAreTaken, PiecesAreTaken, SectionsAreTaken, HeadsAreTaken};
+
+/// The characters of a document spell it.
+fn writes_spell()
+    ensures { WritesSpell }
+{}
+
+/// The place is the number of bytes that were read.
+fn places_count()
+    ensures { PlacesCount }
+{}
+
+/// A comment is taken.
+fn comments_are_taken()
+    ensures { CommentsAreTaken }
+{}
+
+/// EndsAreTaken.
+fn ends_are_taken()
+    ensures { EndsAreTaken }
+{}
+
+/// StartsAreTaken.
+fn starts_are_taken()
+    ensures { StartsAreTaken }
+{}
+
+/// HollowsAreTaken.
+fn hollows_are_taken()
+    ensures { HollowsAreTaken }
+{}
+
+/// PiecesAreTaken.
+fn pieces_are_taken()
+    ensures { PiecesAreTaken }
+{}
+
+/// SectionsAreTaken.
+fn sections_are_taken()
+    ensures { SectionsAreTaken }
+{}
+
+/// HeadsAreTaken.
+fn heads_are_taken()
+    ensures { HeadsAreTaken }
+{}
