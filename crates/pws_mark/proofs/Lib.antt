@@ -13,3 +13,7 @@ pub mod TakesPieces
 pub mod TakesSections
 pub mod TakesValues
 pub mod TakesTags
+pub mod Scalars
+pub mod Letters
+pub mod Opened
+pub mod Declared

@@ -8,12 +8,14 @@ pub mod Documents
 pub mod Examples
 pub mod Faults
 pub mod Grammar
+pub mod Least
 pub mod Meaning
 pub mod Noted
 pub mod Places
 pub mod ReaderLaws
 pub mod Reading
 pub mod Scan
+pub mod Scopes
 pub mod Spelling
 pub mod States
 pub mod Texts

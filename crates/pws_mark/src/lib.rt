@@ -15,8 +15,15 @@
 #![tactic(auto)]
 
 pub mod errors;
+mod least;
 pub mod modes;
+mod declaring;
+mod names;
+mod references;
+mod resolving;
+mod scopes;
 mod spaces;
+mod tags;
 #[cfg(test)]
 mod tests;
 mod reader_laws;
