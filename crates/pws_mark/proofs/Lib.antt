@@ -17,3 +17,4 @@ pub mod Scalars
 pub mod Letters
 pub mod Opened
 pub mod Declared
+pub mod TakesHeads
