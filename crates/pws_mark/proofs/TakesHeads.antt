@@ -11,7 +11,7 @@ use Rattle.pws_tree.specs.Characters.{name_start_ranges, name_more_ranges}
 use Rattle.pws_mark.specs.Documents.{Pseudo, Declaration, Document, spell_pseudo, spell_optional, spell_declaration, spell_head, byte_order_mark}
 use Rattle.pws_mark.specs.Faults.{Fault}
 use Rattle.pws_mark.specs.Grammar.{is_pseudo, is_optional, is_declaration}
-use Rattle.pws_mark.specs.Noted.{noted, finds, then_noted}
+use Rattle.pws_mark.specs.Noted.{noted, noted_at, finds, then_noted}
 use Rattle.pws_mark.specs.Scan.{next, run, then_run, step, start, outside, declaring_step, in_declaration, part_word, literal_word, part_behind, value_begins, gap_step, as_compared, has_at}
 use Rattle.pws_mark.specs.Spelling.{write_pseudo, write_optional, write_declaration, write_head}
 use Rattle.pws_mark.specs.States.{Outer, State}
@@ -308,7 +308,92 @@ fresh_opened : (at c : ℕ) → (c == 63) ≡ false → next (mode.HeadOpened at
 unfolding next
 fresh_opened at c other = rw other refl
 
--- one character to the same
-pub same_step : (s t : State) (c : ℕ) (cs : List ℕ) → step s c ≡ step t c → noted (record { at = s.at; mode = s.mode; outer = s.outer }) (c ∷ []) ≡ noted t (c ∷ []) → (run s (c ∷ cs) ≡ run t (c ∷ cs)) × (noted s (c ∷ cs) ≡ noted t (c ∷ cs))
+-- two states from which these characters lead to the same
+record SameRuns (s t : State) (cs : List ℕ) : Type 0 where
+  runs : run s cs ≡ run t cs
+  notes : noted s cs ≡ noted t cs
+
+same_step : (s t : State) (c : ℕ) (cs : List ℕ) → step s c ≡ step t c → noted_at s c ≡ noted_at t c → SameRuns s t (c ∷ cs)
 unfolding run noted
-same_step s t c cs stepped found = ?
+same_step s t c cs stepped found = record {
+  runs = ap (λ z. then_run z (λ u. run u cs)) stepped;
+  notes = ap (λ z. noted_at s c ++ then_noted z (λ u. noted u cs)) stepped ∙ ap (λ z. z ++ then_noted (step t c) (λ u. noted u cs)) found;
+}
+
+same_next : (m n : Mode) (at c : ℕ) (cs : List ℕ) → next m outside at c ≡ next n outside at c → finds m outside c ≡ finds n outside c → SameRuns (state at m outside) (state at n outside) (c ∷ cs)
+same_next m n at c cs stepped found = same_step (state at m outside) (state at n outside) c cs
+    (ap (λ z. option_map (λ x. record { at = at + length (encode_utf8 c); mode = x.0; outer = x.1 }) z) stepped)
+    (ap (λ z. map (λ f. record { kind = f.0; at = f.1; end = at + length (encode_utf8 c) }) z) found)
+
+fresh_white : (marked : Bool) (at c : ℕ) (cs : List ℕ) → is_white c ≡ true → SameRuns (state at (mode.Start marked) outside) (state at (mode.Content 0 false) outside) (c ∷ cs)
+unfolding finds
+fresh_white marked at c cs white = let h = fresh_first marked at c white in same_next (mode.Start marked) (mode.Content 0 false) at c cs (h.0 ∙ sym h.1) refl
+
+-- behind a <
+fresh_behind : (marked : Bool) (at d : ℕ) (cs : List ℕ) → SameRuns (state (at + 1) (mode.HeadOpened at) outside) (state (at + 1) (mode.Opened at) outside) (d ∷ cs) → SameRuns (state at (mode.Start marked) outside) (state at (mode.Content 0 false) outside) (60 ∷ d ∷ cs)
+unfolding run noted next finds encode
+fresh_behind marked at d cs h = record { runs = h.runs; notes = h.notes }
+
+fresh_tag : (marked : Bool) (at d : ℕ) (cs : List ℕ) → (d == 63) ≡ false → SameRuns (state at (mode.Start marked) outside) (state at (mode.Content 0 false) outside) (60 ∷ d ∷ cs)
+unfolding finds
+fresh_tag marked at d cs other = fresh_behind marked at d cs (same_next (mode.HeadOpened at) (mode.Opened at) (at + 1) d cs (fresh_opened at d other) refl)
+
+fresh : (marked : Bool) (at : ℕ) (cs : List ℕ) → may_follow cs ≡ true → SameRuns (state at (mode.Start marked) outside) (state at (mode.Content 0 false) outside) cs
+fresh marked at [] may = absurd cc
+fresh marked at (c ∷ []) may = fresh_white marked at c [] may
+fresh marked at (c ∷ d ∷ cs) may = by (is_white c) (c == 60) refl (eqb-true c 60) may
+  where
+    by : (w o : Bool) → is_white c ≡ w → (o ≡ true → c ≡ 60) → (w || (o && not (d == 63))) ≡ true → SameRuns (state at (mode.Start marked) outside) (state at (mode.Content 0 false) outside) (c ∷ d ∷ cs)
+    by true o white opens h = fresh_white marked at c (d ∷ cs) white
+    by false true white opens h = subst (λ e. SameRuns (state at (mode.Start marked) outside) (state at (mode.Content 0 false) outside) (e ∷ d ∷ cs)) (sym (opens refl)) (fresh_tag marked at d cs (not-true (d == 63) h))
+    by false false white opens h = absurd cc
+
+-- a declaration from its beginning
+declaration_begins : (marked : Bool) (at : ℕ) → Goes (state at (mode.Start marked) outside) (codes "<?xml") (in_head (at + 5) (declaring.Word 3)) []
+unfolding run noted next finds declaring_step encode name_start_ranges
+declaration_begins marked at = record { runs = ap (λ p. Some (in_head p (declaring.Word 3))) five; notes = refl }
+  where
+    five : at + 1 + 1 + 1 + 1 + 1 ≡ at + 5
+    five = omega arith
+
+whole_declaration : (marked : Bool) (at : ℕ) (d : Declaration) → is_declaration (Some d) ≡ true → Goes (state at (mode.Start marked) outside) (write_declaration (Some d)) (state (at + length (spell_declaration (Some d))) (mode.Content 0 false) outside) []
+whole_declaration marked at d lawful =
+    let bytes = spell_pseudo (codes "version") d.version ++ (spell_optional (codes "encoding") d.encoding ++ (spell_optional (codes "standalone") d.standalone ++ (encode_utf8_all d.gap ++ codes "?>"))) in
+    goes_at (state at (mode.Start marked) outside) (write_declaration (Some d)) (mode.Content 0 false) outside [] (at + 5 + length bytes) (at + length (spell_declaration (Some d)))
+    (omega (arith, length-append (codes "<?xml") bytes))
+    (goes_on_to _ _ _ (codes "<?xml") _ [] [] (declaration_begins marked at) (declaration_goes d (at + 5) lawful))
+
+-- behind these characters another state leads to the same
+record SameTail (s : State) (head : List ℕ) (t : State) (cs : List ℕ) : Type 0 where
+  runs : run s (head ++ cs) ≡ run t cs
+  notes : noted s (head ++ cs) ≡ noted t cs
+
+tail_of : (s t : State) (head cs : List ℕ) → Goes s head t [] → SameTail s head t cs
+tail_of s t head cs h = record {
+  runs = run_append s head cs ∙ ap (λ z. then_run z (λ u. run u cs)) h.runs;
+  notes = noted_append s head cs ∙ (ap (λ z. z ++ then_noted (run s head) (λ u. noted u cs)) h.notes ∙ ap (λ z. then_noted z (λ u. noted u cs)) h.runs);
+}
+
+zero_more : (n : ℕ) → n ≡ n + 0
+zero_more n = omega arith
+
+-- a declaration or none
+heads_agree : (marked : Bool) (at : ℕ) (d : Option Declaration) (cs : List ℕ) → is_declaration d ≡ true → may_follow cs ≡ true → SameTail (state at (mode.Start marked) outside) (write_declaration d) (state (at + length (spell_declaration d)) (mode.Content 0 false) outside) cs
+heads_agree marked at None cs lawful may =
+    let h = fresh marked at cs may in
+    subst (λ p. SameTail (state at (mode.Start marked) outside) [] (state p (mode.Content 0 false) outside) cs) (zero_more at) (record { runs = h.runs; notes = h.notes })
+heads_agree marked at (Some d) cs lawful may = tail_of _ _ (write_declaration (Some d)) cs (whole_declaration marked at d lawful)
+
+three_more : (bytes : List ℕ) → 3 + length bytes ≡ length (byte_order_mark ++ bytes)
+three_more bytes = omega arith
+
+none_more : (n : ℕ) → 0 + n ≡ n
+none_more n = omega arith
+
+pub heads_are_taken : HeadsAreTaken
+unfolding run noted next finds encode
+heads_are_taken d cs lawful may = by d.mark
+  where
+    by : (marked : Bool) → HeadIsTaken (record { mark = marked; declaration = d.declaration; before = d.before; root = d.root; after = d.after }) cs
+    by true = let h = subst (λ p. SameTail (state 3 (mode.Start false) outside) (write_declaration d.declaration) (state p (mode.Content 0 false) outside) cs) (three_more (spell_declaration d.declaration)) (heads_agree false 3 d.declaration cs lawful may) in record { runs = h.runs; notes = h.notes }
+    by false = let h = subst (λ p. SameTail (state 0 (mode.Start true) outside) (write_declaration d.declaration) (state p (mode.Content 0 false) outside) cs) (none_more (length (spell_declaration d.declaration))) (heads_agree true 0 d.declaration cs lawful may) in record { runs = h.runs; notes = h.notes }
