@@ -18,3 +18,4 @@ pub mod Letters
 pub mod Opened
 pub mod Declared
 pub mod TakesHeads
+pub mod Following

@@ -47,3 +47,8 @@ fn sections_are_taken()
 fn heads_are_taken()
     ensures { HeadsAreTaken }
 {}
+
+/// A scratch law.
+fn scratch()
+    ensures { WritesSpell }
+{}
