@@ -116,15 +116,15 @@ word_behind (Element tag inner gap rest) at w = word_behind rest (element_end_at
 abbrev pub with_word : Open → Option (Option Marked) → Open
 with_word x w = record { name = x.name; at = x.at; bound = x.bound; word = w }
 
-taken_opens : (o : Outer) (x : Open) (xs : List Open) (at : ℕ) (c : Option ℕ) (bytes : List ℕ) → o.opens ≡ x ∷ xs → (taken o at c bytes).opens ≡ with_word x (with_char x.word at c) ∷ xs
+pub taken_opens : (o : Outer) (x : Open) (xs : List Open) (at : ℕ) (c : Option ℕ) (bytes : List ℕ) → o.opens ≡ x ∷ xs → (taken o at c bytes).opens ≡ with_word x (with_char x.word at c) ∷ xs
 unfolding taken
 taken_opens o x xs at c bytes h = ap (λ os. (taken (record { opens = os; behind = o.behind; events = o.events; text = o.text }) at c bytes).opens) h
 
-chars_opens : (chars : List ℕ) (o : Outer) (x : Open) (xs : List Open) (at : ℕ) (ret : Bool) → o.opens ≡ x ∷ xs → (all_taken o at ret chars).opens ≡ with_word x (word_behind_chars x.word at chars) ∷ xs
+pub chars_opens : (chars : List ℕ) (o : Outer) (x : Open) (xs : List Open) (at : ℕ) (ret : Bool) → o.opens ≡ x ∷ xs → (all_taken o at ret chars).opens ≡ with_word x (word_behind_chars x.word at chars) ∷ xs
 chars_opens [] o x xs at ret h = h
 chars_opens (c ∷ cs) o x xs at ret h = chars_opens cs _ (with_word x (with_char x.word at (Some c))) xs (at + length (encode_utf8 c)) (c == 13) (taken_opens o x xs at (Some c) _ h)
 
-spoiled_opens : (os : List Open) (x : Open) (xs : List Open) → os ≡ x ∷ xs → spoiled os ≡ with_word x (spoiled_word x.word) ∷ xs
+pub spoiled_opens : (os : List Open) (x : Open) (xs : List Open) → os ≡ x ∷ xs → spoiled os ≡ with_word x (spoiled_word x.word) ∷ xs
 spoiled_opens os x xs h = ap spoiled h
 
 -- the element that a start tag opens
@@ -139,7 +139,7 @@ pub closed_opens : (o : Outer) (x : Open) (xs : List Open) → o.opens ≡ x ∷
 unfolding ended
 closed_opens o x xs h = ap (λ os. (closed_in os o).opens) h
 
-hollowed_opens : (o : Outer) (x : Open) (xs : List Open) (tag : Tag) (at : ℕ) → o.opens ≡ x ∷ xs → (hollowed o (tag_read at tag)).opens ≡ with_word x (spoiled_word x.word) ∷ xs
+pub hollowed_opens : (o : Outer) (x : Open) (xs : List Open) (tag : Tag) (at : ℕ) → o.opens ≡ x ∷ xs → (hollowed o (tag_read at tag)).opens ≡ with_word x (spoiled_word x.word) ∷ xs
 unfolding hollowed
 hollowed_opens o x xs tag at h = spoiled_opens o.opens x xs h
 

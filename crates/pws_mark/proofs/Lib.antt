@@ -19,3 +19,5 @@ pub mod Opened
 pub mod Declared
 pub mod TakesHeads
 pub mod Following
+pub mod SameFaults
+pub mod FollowsFaults
