@@ -176,7 +176,7 @@ hollow_noted m at end tag = by (is_value_name (element_name m tag.name))
 regroup : (xs ys zs rs : List Fault) → (xs ++ (ys ++ zs)) ++ rs ≡ (xs ++ ys) ++ (zs ++ rs)
 regroup xs ys zs rs = ap (λ z. z ++ rs) (sym (append_assoc xs ys zs)) ∙ append_assoc (xs ++ ys) zs rs
 
-bound_around : (o : Outer) (x : Open) (xs : List Open) (tag : Tag) (at : ℕ) → o.opens ≡ x ∷ xs → read_bound (tag_read at tag).attributes (bound_at o.opens) ≡ bound_by tag x.bound
+pub bound_around : (o : Outer) (x : Open) (xs : List Open) (tag : Tag) (at : ℕ) → o.opens ≡ x ∷ xs → read_bound (tag_read at tag).attributes (bound_at o.opens) ≡ bound_by tag x.bound
 bound_around o x xs tag at opens = ap (λ os. read_bound (tag_read at tag).attributes (bound_at os)) opens ∙ bound_same x.bound tag at
 
 pub faults_same : (c : Content) (at : ℕ) (ret : Bool) (o : Outer) (x : Open) (xs : List Open) → o.opens ≡ x ∷ xs → SameFaults (found_in c at ret o) (faults_in x.bound (length (x ∷ xs)) at c)

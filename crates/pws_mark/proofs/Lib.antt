@@ -21,3 +21,4 @@ pub mod TakesHeads
 pub mod Following
 pub mod SameFaults
 pub mod FollowsFaults
+pub mod FollowsEvents
