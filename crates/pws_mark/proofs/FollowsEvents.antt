@@ -24,7 +24,7 @@ use Rattle.pws_mark.specs.declared.modes.Event.{Event}
 use Rattle.pws_mark.specs.declared.modes.Event.TheVariants as event
 use Rattle.pws_mark.specs.declared.modes.ReadAttribute.{ReadAttribute}
 use Rattle.pws_mark.proofs.Following.{taken_opens, chars_opens, hollowed_opens, spoiled_opens, spoiled_word, outer_behind, word_behind, word_behind_chars, with_word, opened_by, opens_behind, started_opens, closed, closed_in, closed_opens, inner_at, close_at, element_end_at, hollow_end_at, section_end_at, comment_end_at}
-use Rattle.pws_mark.proofs.FollowsFaults.{bound_same, bound_around, word_whole}
+use Rattle.pws_mark.proofs.FollowsFaults.{bound_around, word_none, word_whole}
 
 -- what events stand for before these nodes, from the right
 abbrev pub read_on : List Event → List Nodes → List Nodes
@@ -257,6 +257,214 @@ marked_letters (Hollow tag rest) at = refl
 marked_letters (Element tag inner gap rest) at = refl
 
 -- so does the name that the content of Value is
-pub qualified_read : (m : Bindings) (c : Content) (at : ℕ) → qualified_event m (Some (marked at c)) ≡ event.Qualified (qualified_in m c) ∷ []
+qualified_read : (m : Bindings) (c : Content) (at : ℕ) → qualified_event m (Some (marked at c)) ≡ event.Qualified (qualified_in m c) ∷ []
 unfolding qualified_in
 qualified_read m c at = ap (λ z. event.Qualified (name_of m z) ∷ []) (named_letters (marked at c) ∙ (ap name_of_letters (marked_letters c at ∙ sym (marked_letters c 0)) ∙ sym (named_letters (marked 0 c))))
+
+with_char_some : (w : Option Marked) (at : ℕ) (d : Option ℕ) → (v : Option Marked) × (with_char (Some w) at d ≡ Some v)
+with_char_some None at None = (None, refl)
+with_char_some None at (Some c) = (None, refl)
+with_char_some (Some chars) at None = (None, refl)
+with_char_some (Some chars) at (Some c) = (Some (chars ++ (c, at) ∷ []), refl)
+
+quiet_text : (o : Outer) (x : Open) (xs : List Open) (w : Option Marked) (at : ℕ) (c : Option ℕ) (bytes : List ℕ) → o.opens ≡ x ∷ xs → x.word ≡ Some w → (taken o at c bytes).text ≡ o.text
+quiet_text o x xs w at c bytes h is = taken_text o x xs at c bytes h ∙ ap (λ z. text_after z o.text bytes) is
+
+chars_quiet : (chars : List ℕ) (o : Outer) (x : Open) (xs : List Open) (w : Option Marked) (at : ℕ) (ret : Bool) → o.opens ≡ x ∷ xs → x.word ≡ Some w → (all_taken o at ret chars).text ≡ o.text
+chars_quiet [] o x xs w at ret h is = refl
+chars_quiet (c ∷ cs) o x xs w at ret h is =
+    let next_word = with_char_some w at (Some c) in
+    chars_quiet cs _ (with_word x (with_char x.word at (Some c))) xs next_word.0 (at + length (encode_utf8 c)) (c == 13) (taken_opens o x xs at (Some c) _ h) (ap (λ z. with_char z at (Some c)) is ∙ next_word.1)
+    ∙ quiet_text o x xs w at (Some c) _ h is
+
+chars_word_some : (chars : List ℕ) (w : Option Marked) (at : ℕ) → (v : Option Marked) × (word_behind_chars (Some w) at chars ≡ Some v)
+chars_word_some [] w at = (w, refl)
+chars_word_some (c ∷ cs) w at =
+    let one = with_char_some w at (Some c) in
+    let more = chars_word_some cs one.0 (at + length (encode_utf8 c)) in
+    (more.0, ap (λ z. word_behind_chars z (at + length (encode_utf8 c)) cs) one.1 ∙ more.1)
+
+then_parts : (d : Option ℕ) (at : ℕ) (more : Option Marked) (ws : Marked) → then_marked d at more ≡ Some ws → (vs : Marked) × (more ≡ Some vs)
+then_parts None at None ws h = absurd cc
+then_parts None at (Some vs) ws h = absurd cc
+then_parts (Some c) at None ws h = absurd cc
+then_parts (Some c) at (Some vs) ws h = (vs, refl)
+
+map_parts : (f : Marked → Marked) (more : Option Marked) (ws : Marked) → option_map f more ≡ Some ws → (vs : Marked) × (more ≡ Some vs)
+map_parts f None ws h = absurd cc
+map_parts f (Some vs) ws h = (vs, refl)
+
+-- in the content of Value characters are kept apart
+value_quiet : (c : Content) (at : ℕ) (ret : Bool) (o : Outer) (x : Open) (xs : List Open) (w : Option Marked) (ws : Marked) → o.opens ≡ x ∷ xs → x.word ≡ Some w → marked at c ≡ Some ws →
+    ((outer_behind c at ret o).events ≡ o.events) × ((outer_behind c at ret o).text ≡ o.text)
+value_quiet Nothing at ret o x xs w ws opens is found = (refl, refl)
+value_quiet (Text piece rest) at ret o x xs w ws opens is found =
+    let end = at + length (spell_piece piece) in
+    let bytes = piece_bytes ret piece in
+    let next_word = with_char_some w at (piece_char piece) in
+    let more = then_parts (piece_char piece) at (marked end rest) ws found in
+    let again = value_quiet rest end (is_char 13 piece) (taken o at (piece_char piece) bytes) (with_word x (with_char x.word at (piece_char piece))) xs next_word.0 more.0 (taken_opens o x xs at (piece_char piece) bytes opens) (ap (λ z. with_char z at (piece_char piece)) is ∙ next_word.1) more.1 in
+    (again.0 ∙ taken_events o x xs at (piece_char piece) bytes opens, again.1 ∙ quiet_text o x xs w at (piece_char piece) bytes opens is)
+value_quiet (Section chars rest) at ret o x xs w ws opens is found =
+    let begin = at + length section_start in
+    let end = section_end_at at chars in
+    let next_word = chars_word_some chars w begin in
+    let more = map_parts (λ z. placed begin chars ++ z) (marked end rest) ws found in
+    let again = value_quiet rest end false (all_taken o begin false chars) (with_word x (word_behind_chars x.word begin chars)) xs next_word.0 more.0 (chars_opens chars o x xs begin false opens) (ap (λ z. word_behind_chars z begin chars) is ∙ next_word.1) more.1 in
+    (again.0 ∙ chars_events chars o x xs begin false opens, again.1 ∙ chars_quiet chars o x xs w begin false opens is)
+value_quiet (Comment chars rest) at ret o x xs w ws opens is found = value_quiet rest (comment_end_at at chars) false o x xs w ws opens is found
+value_quiet (Hollow tag rest) at ret o x xs w ws opens is found = absurd cc
+value_quiet (Element tag inner gap rest) at ret o x xs w ws opens is found = absurd cc
+
+none_parts : (fs gs : List Fault) → fs ++ gs ≡ [] → (fs ≡ []) × (gs ≡ [])
+none_parts [] gs h = (refl, h)
+none_parts (f ∷ fs) gs h = absurd cc
+
+chars_none : (cs : List ℕ) (p : ℕ) → word_behind_chars None p cs ≡ None
+chars_none [] p = refl
+chars_none (c ∷ cs) p = chars_none cs (p + length (encode_utf8 c))
+
+-- content without a fault is kept as what it stands for
+abbrev Stands : Content → ℕ → Bool → Outer → Bindings → List Nodes → Type 0
+Stands c at ret o m stack = read_on (flushed (outer_behind c at ret o).events (outer_behind c at ret o).text) (NoNode ∷ stack) ≡ read_on o.events (with_text o.text (nodes_in m ret c) ∷ stack)
+
+-- an element that begins with these nodes inside
+opened_on : (o : Outer) (x : Open) (xs : List Open) (tag : Tag) (at : ℕ) (inner rest : Nodes) (stack : List Nodes) → o.opens ≡ x ∷ xs → let m = bound_by tag x.bound in
+    read_on (started o (tag_read at tag)).events (inner ∷ rest ∷ stack) ≡ read_on o.events (with_text o.text (ElementThen (name_of m tag.name) (attrs_of m tag) inner rest) ∷ stack)
+opened_on o x xs tag at inner rest stack opens =
+    let m = bound_by tag x.bound in
+    ap (λ es. read_on es (inner ∷ rest ∷ stack)) (started_events o x xs tag at opens)
+    ∙ (read_on_append (flushed o.events o.text) (event.Open (name_of m tag.name) (read_attrs m (tag_read at tag).attributes) ∷ []) (inner ∷ rest ∷ stack)
+    ∙ (ap (λ z. read_on (flushed o.events o.text) (ElementThen (name_of m tag.name) z inner rest ∷ stack)) (attrs_same m tag at)
+    ∙ flushed_on o.events o.text (ElementThen (name_of m tag.name) (attrs_of m tag) inner rest) stack refl))
+
+-- what is inside of an element
+abbrev nodes_inside : Bindings → Tag → Content → Nodes
+nodes_inside m tag inner = if is_value (name_of m tag.name) then QualifiedThen (qualified_in m inner) NoNode else nodes_in m false inner
+
+some_marked : (m : Bindings) (at end : ℕ) (w : Option Marked) → content_faults_of m at end (word_of w) ≡ [] → (ws : Marked) × (w ≡ Some ws)
+some_marked m at end None h = absurd cc
+some_marked m at end (Some ws) h = (ws, refl)
+
+element_contents : (o : Outer) (x : Open) (xs : List Open) (tag : Tag) (inner : Content) (at end : ℕ) (nodes : Nodes) (stack : List Nodes) → o.opens ≡ x ∷ xs →
+    let m = bound_by tag x.bound in
+    let begin = inner_at at tag in
+    let begun = started o (tag_read at tag) in
+    let within = outer_behind inner begin false begun in
+    let y = opened_by o tag at in
+    let z = with_word y (word_behind inner begin y.word) in
+    element_faults m at begin end tag inner ≡ [] → (y.word ≡ None → Stands inner begin false begun y.bound (nodes ∷ stack)) →
+    read_on (flushed within.events within.text) (read_on (qualified_event z.bound z.word ++ event.Close ∷ []) (nodes ∷ stack)) ≡ read_on begun.events (nodes_inside m tag inner ∷ nodes ∷ stack)
+element_contents o x xs tag inner at end nodes stack opens faultless again =
+    by (is_value_name (element_name (bound_by tag x.bound) tag.name)) refl faultless
+  where
+    kept : (v : Bool) → is_value_name (element_name (bound_by tag x.bound) tag.name) ≡ v → (opened_by o tag at).word ≡ (if v then Some (Some []) else None)
+    kept v e = ap (λ n. word_in n tag.name) (bound_around o x xs tag at opens) ∙ ap (λ b. if b then Some (Some []) else None) e
+
+    inside : (v : Bool) → is_value_name (element_name (bound_by tag x.bound) tag.name) ≡ v → nodes_inside (bound_by tag x.bound) tag inner ≡ (if v then QualifiedThen (qualified_in (bound_by tag x.bound) inner) NoNode else nodes_in (bound_by tag x.bound) false inner)
+    inside v e = ap (λ b. if b then QualifiedThen (qualified_in (bound_by tag x.bound) inner) NoNode else nodes_in (bound_by tag x.bound) false inner) (value_tested (bound_by tag x.bound) tag.name ∙ e)
+
+    by : (v : Bool) → is_value_name (element_name (bound_by tag x.bound) tag.name) ≡ v → (if v then content_faults_of (bound_by tag x.bound) at end (name_within (inner_at at tag) inner) else []) ≡ [] →
+        (let within = outer_behind inner (inner_at at tag) false (started o (tag_read at tag)) in
+        let y = opened_by o tag at in
+        read_on (flushed within.events within.text) (read_on (qualified_event y.bound (word_behind inner (inner_at at tag) y.word) ++ event.Close ∷ []) (nodes ∷ stack)) ≡ read_on (started o (tag_read at tag)).events (nodes_inside (bound_by tag x.bound) tag inner ∷ nodes ∷ stack))
+    by false e none =
+        let begin = inner_at at tag in
+        let begun = started o (tag_read at tag) in
+        let within = outer_behind inner begin false begun in
+        let y = opened_by o tag at in
+        let m = bound_by tag x.bound in
+        let word : y.word ≡ None = kept false e in
+        let behind : word_behind inner begin y.word ≡ None = ap (word_behind inner begin) word ∙ word_none inner begin in
+        ap (λ w. read_on (flushed within.events within.text) (read_on (qualified_event y.bound w ++ event.Close ∷ []) (nodes ∷ stack))) behind
+        ∙ (again word
+        ∙ (ap (λ t. read_on begun.events (with_text t (nodes_in y.bound false inner) ∷ nodes ∷ stack)) (started_text o tag at)
+        ∙ (ap (λ n. read_on begun.events (n ∷ nodes ∷ stack)) (no_text (nodes_in y.bound false inner))
+        ∙ (ap (λ n. read_on begun.events (nodes_in n false inner ∷ nodes ∷ stack)) (bound_around o x xs tag at opens)
+        ∙ ap (λ n. read_on begun.events (n ∷ nodes ∷ stack)) (sym (inside false e))))))
+    by true e none =
+        let begin = inner_at at tag in
+        let begun = started o (tag_read at tag) in
+        let within = outer_behind inner begin false begun in
+        let y = opened_by o tag at in
+        let m = bound_by tag x.bound in
+        let word : y.word ≡ Some (Some []) = kept true e in
+        let behind : word_behind inner begin y.word ≡ Some (marked begin inner) = ap (word_behind inner begin) word ∙ word_whole inner begin in
+        let found = some_marked m at end (marked begin inner) none in
+        let quiet = value_quiet inner begin false begun y (spoiled o.opens) (Some []) found.0 (started_opens o tag at) word found.1 in
+        let kept_events : flushed within.events within.text ≡ begun.events = ap (λ t. flushed within.events t) (quiet.1 ∙ started_text o tag at) ∙ quiet.0 in
+        ap (λ w. read_on (flushed within.events within.text) (read_on (qualified_event y.bound w ++ event.Close ∷ []) (nodes ∷ stack))) behind
+        ∙ (ap (λ q. read_on (flushed within.events within.text) (read_on (q ++ event.Close ∷ []) (nodes ∷ stack))) (qualified_read y.bound inner begin)
+        ∙ (ap (λ es. read_on es (QualifiedThen (qualified_in y.bound inner) NoNode ∷ nodes ∷ stack)) kept_events
+        ∙ (ap (λ n. read_on begun.events (QualifiedThen (qualified_in n inner) NoNode ∷ nodes ∷ stack)) (bound_around o x xs tag at opens)
+        ∙ ap (λ n. read_on begun.events (n ∷ nodes ∷ stack)) (sym (inside true e)))))
+
+pub events_same : (c : Content) (at : ℕ) (ret : Bool) (o : Outer) (x : Open) (xs : List Open) → o.opens ≡ x ∷ xs → x.word ≡ None → faults_in x.bound (length (x ∷ xs)) at c ≡ [] → (stack : List Nodes) → Stands c at ret o x.bound stack
+events_same Nothing at ret o x xs opens plain faultless stack = flushed_on o.events o.text NoNode stack refl
+events_same (Text piece rest) at ret o x xs opens plain faultless stack =
+    let end = at + length (spell_piece piece) in
+    let bytes = piece_bytes ret piece in
+    let around = taken o at (piece_char piece) bytes in
+    let parts = none_parts (piece_faults at piece) (faults_in x.bound (length (x ∷ xs)) end rest) faultless in
+    let text : around.text ≡ o.text ++ bytes = taken_text o x xs at (piece_char piece) bytes opens ∙ ap (λ z. text_after z o.text bytes) plain in
+    events_same rest end (is_char 13 piece) around (with_word x (with_char x.word at (piece_char piece))) xs (taken_opens o x xs at (piece_char piece) bytes opens) (ap (λ z. with_char z at (piece_char piece)) plain) parts.1 stack
+    ∙ (ap (λ es. read_on es (with_text around.text (nodes_in x.bound (is_char 13 piece) rest) ∷ stack)) (taken_events o x xs at (piece_char piece) bytes opens)
+    ∙ (ap (λ t. read_on o.events (with_text t (nodes_in x.bound (is_char 13 piece) rest) ∷ stack)) text
+    ∙ ap (λ n. read_on o.events (n ∷ stack)) (two_texts o.text bytes (nodes_in x.bound (is_char 13 piece) rest) ∙ ap (with_text o.text) (piece_text x.bound ret piece rest))))
+events_same (Section chars rest) at ret o x xs opens plain faultless stack =
+    let begin = at + length section_start in
+    let around = all_taken o begin false chars in
+    let text : around.text ≡ o.text ++ encode_utf8_all (line_ends false chars) = chars_text chars o x xs begin false opens plain in
+    events_same rest (section_end_at at chars) false around (with_word x (word_behind_chars x.word begin chars)) xs (chars_opens chars o x xs begin false opens) (ap (λ z. word_behind_chars z begin chars) plain ∙ chars_none chars begin) faultless stack
+    ∙ (ap (λ es. read_on es (with_text around.text (nodes_in x.bound false rest) ∷ stack)) (chars_events chars o x xs begin false opens)
+    ∙ (ap (λ t. read_on o.events (with_text t (nodes_in x.bound false rest) ∷ stack)) text
+    ∙ ap (λ n. read_on o.events (n ∷ stack)) (two_texts o.text (encode_utf8_all (line_ends false chars)) (nodes_in x.bound false rest))))
+events_same (Comment chars rest) at ret o x xs opens plain faultless stack = events_same rest (comment_end_at at chars) false o x xs opens plain faultless stack
+events_same (Hollow tag rest) at ret o x xs opens plain faultless stack =
+    let end = hollow_end_at at tag in
+    let other_end = at + (open_length tag + 1) in
+    let level = length (x ∷ xs) in
+    let m = bound_by tag x.bound in
+    let around = hollowed o (tag_read at tag) in
+    let nodes = nodes_in x.bound false rest in
+    let parts = none_parts (tag_faults m level at other_end tag) (element_faults m at other_end other_end tag Nothing ++ faults_in x.bound level other_end rest) faultless in
+    let more = none_parts (element_faults m at other_end other_end tag Nothing) (faults_in x.bound level other_end rest) parts.1 in
+    let place : end ≡ other_end = omega arith in
+    let rest_faultless : faults_in x.bound level end rest ≡ [] = ap (λ p. faults_in x.bound level p rest) place ∙ more.1 in
+    events_same rest end false around (with_word x (spoiled_word x.word)) xs (hollowed_opens o x xs tag at opens) (ap spoiled_word plain) rest_faultless stack
+    ∙ (ap (λ t. read_on around.events (with_text t nodes ∷ stack)) (hollowed_text o tag at)
+    ∙ (ap (λ n. read_on around.events (n ∷ stack)) (no_text nodes)
+    ∙ (ap (λ es. read_on es (nodes ∷ stack)) (hollowed_events o x xs tag at opens)
+    ∙ (read_on_append (flushed o.events o.text) (event.Open (name_of m tag.name) (read_attrs m (tag_read at tag).attributes) ∷ event.Close ∷ []) (nodes ∷ stack)
+    ∙ (ap (λ z. read_on (flushed o.events o.text) (ElementThen (name_of m tag.name) z NoNode nodes ∷ stack)) (attrs_same m tag at)
+    ∙ flushed_on o.events o.text (ElementThen (name_of m tag.name) (attrs_of m tag) NoNode nodes) stack refl)))))
+events_same (Element tag inner gap rest) at ret o x xs opens plain faultless stack =
+    let begin = inner_at at tag in
+    let end = element_end_at at tag inner gap in
+    let other_end = begin + (length (spell_content inner) + close_length tag gap) in
+    let level = length (x ∷ xs) in
+    let m = bound_by tag x.bound in
+    let begun = started o (tag_read at tag) in
+    let within = outer_behind inner begin false begun in
+    let y = opened_by o tag at in
+    let z = with_word y (word_behind inner begin y.word) in
+    let nodes = nodes_in x.bound false rest in
+    let within_opens : within.opens ≡ z ∷ spoiled o.opens = opens_behind inner begun y (spoiled o.opens) begin false (started_opens o tag at) in
+    let shut_opens : (closed within).opens ≡ with_word x (spoiled_word x.word) ∷ xs = closed_opens within z (spoiled o.opens) within_opens ∙ spoiled_opens o.opens x xs opens in
+    let one = none_parts (tag_faults m level at begin tag) (faults_in m (level + 1) begin inner ++ (element_faults m at begin other_end tag inner ++ faults_in x.bound level other_end rest)) faultless in
+    let two = none_parts (faults_in m (level + 1) begin inner) (element_faults m at begin other_end tag inner ++ faults_in x.bound level other_end rest) one.1 in
+    let three = none_parts (element_faults m at begin other_end tag inner) (faults_in x.bound level other_end rest) two.1 in
+    let place : end ≡ other_end = omega arith in
+    let rest_faultless : faults_in x.bound level end rest ≡ [] = ap (λ p. faults_in x.bound level p rest) place ∙ three.1 in
+    let bound : y.bound ≡ m = bound_around o x xs tag at opens in
+    let depth : length (y ∷ spoiled o.opens) ≡ level + 1 = omega (arith, ap length (spoiled_opens o.opens x xs opens)) in
+    let inner_faultless : faults_in y.bound (length (y ∷ spoiled o.opens)) begin inner ≡ [] = ap (λ l. faults_in y.bound l begin inner) depth ∙ (ap (λ n. faults_in n (level + 1) begin inner) bound ∙ two.0) in
+    let inside = nodes_inside m tag inner in
+    let contents : read_on (flushed within.events within.text) (read_on (qualified_event z.bound z.word ++ event.Close ∷ []) (nodes ∷ stack)) ≡ read_on begun.events (inside ∷ nodes ∷ stack) =
+      element_contents o x xs tag inner at other_end nodes stack opens three.0 (λ word. events_same inner begin false begun y (spoiled o.opens) (started_opens o tag at) word inner_faultless (nodes ∷ stack)) in
+    events_same rest end false (closed within) (with_word x (spoiled_word x.word)) xs shut_opens (ap spoiled_word plain) rest_faultless stack
+    ∙ (ap (λ t. read_on (closed within).events (with_text t nodes ∷ stack)) (closed_text within z (spoiled o.opens) within_opens)
+    ∙ (ap (λ n. read_on (closed within).events (n ∷ stack)) (no_text nodes)
+    ∙ (ap (λ es. read_on es (nodes ∷ stack)) (closed_events within z (spoiled o.opens) within_opens)
+    ∙ (read_on_append (flushed within.events within.text) (qualified_event z.bound z.word ++ event.Close ∷ []) (nodes ∷ stack)
+    ∙ (contents ∙ opened_on o x xs tag at inside nodes stack opens)))))

@@ -95,7 +95,7 @@ unfolding read_bound bound_by
 bound_same m tag at = ap (λ z. filter (λ b. not (bytes_eq b.0 xml_word) && not (bytes_eq b.0 xmlns_word)) z ++ m) (declared_same tag.attributes (at + (1 + length (encode_utf8_all tag.name))))
 
 -- the content of a Value, and what it may become
-word_none : (c : Content) (at : ℕ) → word_behind c at None ≡ None
+pub word_none : (c : Content) (at : ℕ) → word_behind c at None ≡ None
 word_none Nothing at = refl
 word_none (Text piece rest) at = word_none rest (at + length (spell_piece piece))
 word_none (Section chars rest) at = ap (word_behind rest (section_end_at at chars)) (by chars (at + length section_start)) ∙ word_none rest (section_end_at at chars)
