@@ -229,18 +229,18 @@ goes_then s cs rest size end at n ret o fs place one more =
     goes_at s (cs ++ write_content rest) (mode.Content (marks_behind rest n) (return_behind rest ret)) (outer_behind rest end ret o) (fs ++ found_in rest end ret o) (end + length (spell_content rest)) (at + size) place
     (goes_on_to _ _ _ cs (write_content rest) fs (found_in rest end ret o) one more)
 
-comment_back : (chars cs : List ℕ) → (comment_start ++ (chars ++ comment_end)) ++ cs ≡ comment_start ++ (chars ++ (comment_end ++ cs))
+pub comment_back : (chars cs : List ℕ) → (comment_start ++ (chars ++ comment_end)) ++ cs ≡ comment_start ++ (chars ++ (comment_end ++ cs))
 comment_back chars cs = append_assoc comment_start (chars ++ comment_end) cs ∙ ap (λ z. comment_start ++ z) (append_assoc chars comment_end cs)
 
 section_back : (chars cs : List ℕ) → (section_start ++ (chars ++ section_end)) ++ cs ≡ section_start ++ (chars ++ (section_end ++ cs))
 section_back chars cs = append_assoc section_start (chars ++ section_end) cs ∙ ap (λ z. section_start ++ z) (append_assoc chars section_end cs)
 
-element_back : (tag : Tag) (gap inner rest : List ℕ) → (60 ∷ (write_tag tag ++ 62 ∷ [])) ++ (inner ++ ((60 ∷ 47 ∷ (tag.name ++ (gap ++ 62 ∷ []))) ++ rest)) ≡ 60 ∷ (write_tag tag ++ 62 ∷ (inner ++ 60 ∷ 47 ∷ (tag.name ++ (gap ++ 62 ∷ rest))))
+pub element_back : (tag : Tag) (gap inner rest : List ℕ) → (60 ∷ (write_tag tag ++ 62 ∷ [])) ++ (inner ++ ((60 ∷ 47 ∷ (tag.name ++ (gap ++ 62 ∷ []))) ++ rest)) ≡ 60 ∷ (write_tag tag ++ 62 ∷ (inner ++ 60 ∷ 47 ∷ (tag.name ++ (gap ++ 62 ∷ rest))))
 element_back tag gap inner rest =
     ap (λ z. 60 ∷ z) (append_assoc (write_tag tag) (62 ∷ []) (inner ++ ((60 ∷ 47 ∷ (tag.name ++ (gap ++ 62 ∷ []))) ++ rest)))
     ∙ ap (λ z. 60 ∷ (write_tag tag ++ 62 ∷ (inner ++ 60 ∷ 47 ∷ z))) (append_assoc tag.name (gap ++ 62 ∷ []) rest ∙ ap (λ z. tag.name ++ z) (append_assoc gap (62 ∷ []) rest))
 
-element_size : (tag : Tag) (gap inner rest : List ℕ) (at : ℕ) → at + open_length tag + length inner + close_length tag gap + length rest ≡ at + length (60 ∷ (spell_tag tag ++ 62 ∷ (inner ++ 60 ∷ 47 ∷ (encode_utf8_all tag.name ++ (encode_utf8_all gap ++ 62 ∷ rest)))))
+pub element_size : (tag : Tag) (gap inner rest : List ℕ) (at : ℕ) → at + open_length tag + length inner + close_length tag gap + length rest ≡ at + length (60 ∷ (spell_tag tag ++ 62 ∷ (inner ++ 60 ∷ 47 ∷ (encode_utf8_all tag.name ++ (encode_utf8_all gap ++ 62 ∷ rest)))))
 element_size tag gap inner rest at =
     omega (arith, length-append (spell_tag tag) (62 ∷ (inner ++ 60 ∷ 47 ∷ (encode_utf8_all tag.name ++ (encode_utf8_all gap ++ 62 ∷ rest)))), length-append inner (60 ∷ 47 ∷ (encode_utf8_all tag.name ++ (encode_utf8_all gap ++ 62 ∷ rest))), length-append (encode_utf8_all tag.name) (encode_utf8_all gap ++ 62 ∷ rest), length-append (encode_utf8_all gap) (62 ∷ rest), length-append (encode_utf8_all tag.name) (encode_utf8_all gap))
 

@@ -58,7 +58,7 @@ unfolding with_text
 flushed_on es [] n stack h = refl
 flushed_on es (b ∷ bs) n stack h = read_on_append es (event.Text (b ∷ bs) ∷ []) (n ∷ stack) ∙ ap (λ z. read_on es (z ∷ stack)) (joined_is (b ∷ bs) n h)
 
-no_text : (n : Nodes) → with_text [] n ≡ n
+pub no_text : (n : Nodes) → with_text [] n ≡ n
 unfolding with_text
 no_text n = refl
 
@@ -115,7 +115,7 @@ attrs_read : (m : Bindings) (more : List Attribute) (at : ℕ) → filter_map (r
 attrs_read m [] at = refl
 attrs_read m (a ∷ more) at = ap (cons_option (attr_of m a)) (attrs_read m more (at + length (spell_attribute a)))
 
-attrs_same : (m : Bindings) (tag : Tag) (at : ℕ) → in_order (read_attrs m (tag_read at tag).attributes) ≡ attrs_of m tag
+pub attrs_same : (m : Bindings) (tag : Tag) (at : ℕ) → in_order (read_attrs m (tag_read at tag).attributes) ≡ attrs_of m tag
 unfolding read_attrs attrs_of
 attrs_same m tag at = ap in_order (attrs_read m tag.attributes (at + (1 + length (encode_utf8_all tag.name))))
 
@@ -129,20 +129,20 @@ hollowed_text : (o : Outer) (tag : Tag) (at : ℕ) → (hollowed o (tag_read at 
 unfolding hollowed
 hollowed_text o tag at = refl
 
-started_events : (o : Outer) (x : Open) (xs : List Open) (tag : Tag) (at : ℕ) → o.opens ≡ x ∷ xs → let m = bound_by tag x.bound in
+started_events : (o : Outer) (m : Bindings) (tag : Tag) (at : ℕ) → (opened_by o tag at).bound ≡ m →
     (started o (tag_read at tag)).events ≡ flushed o.events o.text ++ event.Open (name_of m tag.name) (read_attrs m (tag_read at tag).attributes) ∷ []
 unfolding started
-started_events o x xs tag at h = ap (λ m. flushed o.events o.text ++ event.Open (name_of m tag.name) (read_attrs m (tag_read at tag).attributes) ∷ []) (bound_around o x xs tag at h)
+started_events o m tag at h = ap (λ n. flushed o.events o.text ++ event.Open (name_of n tag.name) (read_attrs n (tag_read at tag).attributes) ∷ []) h
 
-started_text : (o : Outer) (tag : Tag) (at : ℕ) → (started o (tag_read at tag)).text ≡ []
+pub started_text : (o : Outer) (tag : Tag) (at : ℕ) → (started o (tag_read at tag)).text ≡ []
 unfolding started
 started_text o tag at = refl
 
-closed_events : (o : Outer) (x : Open) (xs : List Open) → o.opens ≡ x ∷ xs → (closed o).events ≡ flushed o.events o.text ++ (qualified_event x.bound x.word ++ event.Close ∷ [])
+pub closed_events : (o : Outer) (x : Open) (xs : List Open) → o.opens ≡ x ∷ xs → (closed o).events ≡ flushed o.events o.text ++ (qualified_event x.bound x.word ++ event.Close ∷ [])
 unfolding ended
 closed_events o x xs h = ap (λ os. (closed_in os o).events) h
 
-closed_text : (o : Outer) (x : Open) (xs : List Open) → o.opens ≡ x ∷ xs → (closed o).text ≡ []
+pub closed_text : (o : Outer) (x : Open) (xs : List Open) → o.opens ≡ x ∷ xs → (closed o).text ≡ []
 unfolding ended
 closed_text o x xs h = ap (λ os. (closed_in os o).text) h
 
@@ -316,7 +316,7 @@ value_quiet (Comment chars rest) at ret o x xs w ws opens is found = value_quiet
 value_quiet (Hollow tag rest) at ret o x xs w ws opens is found = absurd cc
 value_quiet (Element tag inner gap rest) at ret o x xs w ws opens is found = absurd cc
 
-none_parts : (fs gs : List Fault) → fs ++ gs ≡ [] → (fs ≡ []) × (gs ≡ [])
+pub none_parts : (fs gs : List Fault) → fs ++ gs ≡ [] → (fs ≡ []) × (gs ≡ [])
 none_parts [] gs h = (refl, h)
 none_parts (f ∷ fs) gs h = absurd cc
 
@@ -325,29 +325,27 @@ chars_none [] p = refl
 chars_none (c ∷ cs) p = chars_none cs (p + length (encode_utf8 c))
 
 -- content without a fault is kept as what it stands for
-abbrev Stands : Content → ℕ → Bool → Outer → Bindings → List Nodes → Type 0
+abbrev pub Stands : Content → ℕ → Bool → Outer → Bindings → List Nodes → Type 0
 Stands c at ret o m stack = read_on (flushed (outer_behind c at ret o).events (outer_behind c at ret o).text) (NoNode ∷ stack) ≡ read_on o.events (with_text o.text (nodes_in m ret c) ∷ stack)
 
 -- an element that begins with these nodes inside
-opened_on : (o : Outer) (x : Open) (xs : List Open) (tag : Tag) (at : ℕ) (inner rest : Nodes) (stack : List Nodes) → o.opens ≡ x ∷ xs → let m = bound_by tag x.bound in
+pub opened_on : (o : Outer) (m : Bindings) (tag : Tag) (at : ℕ) (inner rest : Nodes) (stack : List Nodes) → (opened_by o tag at).bound ≡ m →
     read_on (started o (tag_read at tag)).events (inner ∷ rest ∷ stack) ≡ read_on o.events (with_text o.text (ElementThen (name_of m tag.name) (attrs_of m tag) inner rest) ∷ stack)
-opened_on o x xs tag at inner rest stack opens =
-    let m = bound_by tag x.bound in
-    ap (λ es. read_on es (inner ∷ rest ∷ stack)) (started_events o x xs tag at opens)
+opened_on o m tag at inner rest stack bound =
+    ap (λ es. read_on es (inner ∷ rest ∷ stack)) (started_events o m tag at bound)
     ∙ (read_on_append (flushed o.events o.text) (event.Open (name_of m tag.name) (read_attrs m (tag_read at tag).attributes) ∷ []) (inner ∷ rest ∷ stack)
     ∙ (ap (λ z. read_on (flushed o.events o.text) (ElementThen (name_of m tag.name) z inner rest ∷ stack)) (attrs_same m tag at)
     ∙ flushed_on o.events o.text (ElementThen (name_of m tag.name) (attrs_of m tag) inner rest) stack refl))
 
 -- what is inside of an element
-abbrev nodes_inside : Bindings → Tag → Content → Nodes
+abbrev pub nodes_inside : Bindings → Tag → Content → Nodes
 nodes_inside m tag inner = if is_value (name_of m tag.name) then QualifiedThen (qualified_in m inner) NoNode else nodes_in m false inner
 
 some_marked : (m : Bindings) (at end : ℕ) (w : Option Marked) → content_faults_of m at end (word_of w) ≡ [] → (ws : Marked) × (w ≡ Some ws)
 some_marked m at end None h = absurd cc
 some_marked m at end (Some ws) h = (ws, refl)
 
-element_contents : (o : Outer) (x : Open) (xs : List Open) (tag : Tag) (inner : Content) (at end : ℕ) (nodes : Nodes) (stack : List Nodes) → o.opens ≡ x ∷ xs →
-    let m = bound_by tag x.bound in
+pub element_contents : (o : Outer) (m : Bindings) (tag : Tag) (inner : Content) (at end : ℕ) (nodes : Nodes) (stack : List Nodes) → (opened_by o tag at).bound ≡ m →
     let begin = inner_at at tag in
     let begun = started o (tag_read at tag) in
     let within = outer_behind inner begin false begun in
@@ -355,39 +353,37 @@ element_contents : (o : Outer) (x : Open) (xs : List Open) (tag : Tag) (inner : 
     let z = with_word y (word_behind inner begin y.word) in
     element_faults m at begin end tag inner ≡ [] → (y.word ≡ None → Stands inner begin false begun y.bound (nodes ∷ stack)) →
     read_on (flushed within.events within.text) (read_on (qualified_event z.bound z.word ++ event.Close ∷ []) (nodes ∷ stack)) ≡ read_on begun.events (nodes_inside m tag inner ∷ nodes ∷ stack)
-element_contents o x xs tag inner at end nodes stack opens faultless again =
-    by (is_value_name (element_name (bound_by tag x.bound) tag.name)) refl faultless
+element_contents o m tag inner at end nodes stack bound faultless again =
+    by (is_value_name (element_name m tag.name)) refl faultless
   where
-    kept : (v : Bool) → is_value_name (element_name (bound_by tag x.bound) tag.name) ≡ v → (opened_by o tag at).word ≡ (if v then Some (Some []) else None)
-    kept v e = ap (λ n. word_in n tag.name) (bound_around o x xs tag at opens) ∙ ap (λ b. if b then Some (Some []) else None) e
+    kept : (v : Bool) → is_value_name (element_name m tag.name) ≡ v → (opened_by o tag at).word ≡ (if v then Some (Some []) else None)
+    kept v e = ap (λ n. word_in n tag.name) (bound) ∙ ap (λ b. if b then Some (Some []) else None) e
 
-    inside : (v : Bool) → is_value_name (element_name (bound_by tag x.bound) tag.name) ≡ v → nodes_inside (bound_by tag x.bound) tag inner ≡ (if v then QualifiedThen (qualified_in (bound_by tag x.bound) inner) NoNode else nodes_in (bound_by tag x.bound) false inner)
-    inside v e = ap (λ b. if b then QualifiedThen (qualified_in (bound_by tag x.bound) inner) NoNode else nodes_in (bound_by tag x.bound) false inner) (value_tested (bound_by tag x.bound) tag.name ∙ e)
+    inside : (v : Bool) → is_value_name (element_name m tag.name) ≡ v → nodes_inside m tag inner ≡ (if v then QualifiedThen (qualified_in m inner) NoNode else nodes_in m false inner)
+    inside v e = ap (λ b. if b then QualifiedThen (qualified_in m inner) NoNode else nodes_in m false inner) (value_tested m tag.name ∙ e)
 
-    by : (v : Bool) → is_value_name (element_name (bound_by tag x.bound) tag.name) ≡ v → (if v then content_faults_of (bound_by tag x.bound) at end (name_within (inner_at at tag) inner) else []) ≡ [] →
+    by : (v : Bool) → is_value_name (element_name m tag.name) ≡ v → (if v then content_faults_of m at end (name_within (inner_at at tag) inner) else []) ≡ [] →
         (let within = outer_behind inner (inner_at at tag) false (started o (tag_read at tag)) in
         let y = opened_by o tag at in
-        read_on (flushed within.events within.text) (read_on (qualified_event y.bound (word_behind inner (inner_at at tag) y.word) ++ event.Close ∷ []) (nodes ∷ stack)) ≡ read_on (started o (tag_read at tag)).events (nodes_inside (bound_by tag x.bound) tag inner ∷ nodes ∷ stack))
+        read_on (flushed within.events within.text) (read_on (qualified_event y.bound (word_behind inner (inner_at at tag) y.word) ++ event.Close ∷ []) (nodes ∷ stack)) ≡ read_on (started o (tag_read at tag)).events (nodes_inside m tag inner ∷ nodes ∷ stack))
     by false e none =
         let begin = inner_at at tag in
         let begun = started o (tag_read at tag) in
         let within = outer_behind inner begin false begun in
         let y = opened_by o tag at in
-        let m = bound_by tag x.bound in
         let word : y.word ≡ None = kept false e in
         let behind : word_behind inner begin y.word ≡ None = ap (word_behind inner begin) word ∙ word_none inner begin in
         ap (λ w. read_on (flushed within.events within.text) (read_on (qualified_event y.bound w ++ event.Close ∷ []) (nodes ∷ stack))) behind
         ∙ (again word
         ∙ (ap (λ t. read_on begun.events (with_text t (nodes_in y.bound false inner) ∷ nodes ∷ stack)) (started_text o tag at)
         ∙ (ap (λ n. read_on begun.events (n ∷ nodes ∷ stack)) (no_text (nodes_in y.bound false inner))
-        ∙ (ap (λ n. read_on begun.events (nodes_in n false inner ∷ nodes ∷ stack)) (bound_around o x xs tag at opens)
+        ∙ (ap (λ n. read_on begun.events (nodes_in n false inner ∷ nodes ∷ stack)) (bound)
         ∙ ap (λ n. read_on begun.events (n ∷ nodes ∷ stack)) (sym (inside false e))))))
     by true e none =
         let begin = inner_at at tag in
         let begun = started o (tag_read at tag) in
         let within = outer_behind inner begin false begun in
         let y = opened_by o tag at in
-        let m = bound_by tag x.bound in
         let word : y.word ≡ Some (Some []) = kept true e in
         let behind : word_behind inner begin y.word ≡ Some (marked begin inner) = ap (word_behind inner begin) word ∙ word_whole inner begin in
         let found = some_marked m at end (marked begin inner) none in
@@ -396,7 +392,7 @@ element_contents o x xs tag inner at end nodes stack opens faultless again =
         ap (λ w. read_on (flushed within.events within.text) (read_on (qualified_event y.bound w ++ event.Close ∷ []) (nodes ∷ stack))) behind
         ∙ (ap (λ q. read_on (flushed within.events within.text) (read_on (q ++ event.Close ∷ []) (nodes ∷ stack))) (qualified_read y.bound inner begin)
         ∙ (ap (λ es. read_on es (QualifiedThen (qualified_in y.bound inner) NoNode ∷ nodes ∷ stack)) kept_events
-        ∙ (ap (λ n. read_on begun.events (QualifiedThen (qualified_in n inner) NoNode ∷ nodes ∷ stack)) (bound_around o x xs tag at opens)
+        ∙ (ap (λ n. read_on begun.events (QualifiedThen (qualified_in n inner) NoNode ∷ nodes ∷ stack)) (bound)
         ∙ ap (λ n. read_on begun.events (n ∷ nodes ∷ stack)) (sym (inside true e)))))
 
 pub events_same : (c : Content) (at : ℕ) (ret : Bool) (o : Outer) (x : Open) (xs : List Open) → o.opens ≡ x ∷ xs → x.word ≡ None → faults_in x.bound (length (x ∷ xs)) at c ≡ [] → (stack : List Nodes) → Stands c at ret o x.bound stack
@@ -461,10 +457,10 @@ events_same (Element tag inner gap rest) at ret o x xs opens plain faultless sta
     let inner_faultless : faults_in y.bound (length (y ∷ spoiled o.opens)) begin inner ≡ [] = ap (λ l. faults_in y.bound l begin inner) depth ∙ (ap (λ n. faults_in n (level + 1) begin inner) bound ∙ two.0) in
     let inside = nodes_inside m tag inner in
     let contents : read_on (flushed within.events within.text) (read_on (qualified_event z.bound z.word ++ event.Close ∷ []) (nodes ∷ stack)) ≡ read_on begun.events (inside ∷ nodes ∷ stack) =
-      element_contents o x xs tag inner at other_end nodes stack opens three.0 (λ word. events_same inner begin false begun y (spoiled o.opens) (started_opens o tag at) word inner_faultless (nodes ∷ stack)) in
+      element_contents o m tag inner at other_end nodes stack bound three.0 (λ word. events_same inner begin false begun y (spoiled o.opens) (started_opens o tag at) word inner_faultless (nodes ∷ stack)) in
     events_same rest end false (closed within) (with_word x (spoiled_word x.word)) xs shut_opens (ap spoiled_word plain) rest_faultless stack
     ∙ (ap (λ t. read_on (closed within).events (with_text t nodes ∷ stack)) (closed_text within z (spoiled o.opens) within_opens)
     ∙ (ap (λ n. read_on (closed within).events (n ∷ stack)) (no_text nodes)
     ∙ (ap (λ es. read_on es (nodes ∷ stack)) (closed_events within z (spoiled o.opens) within_opens)
     ∙ (read_on_append (flushed within.events within.text) (qualified_event z.bound z.word ++ event.Close ∷ []) (nodes ∷ stack)
-    ∙ (contents ∙ opened_on o x xs tag at inside nodes stack opens)))))
+    ∙ (contents ∙ opened_on o m tag at inside nodes stack bound)))))

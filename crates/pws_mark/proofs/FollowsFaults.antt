@@ -21,7 +21,7 @@ use Rattle.pws_mark.proofs.SameFaults.{same_faults, then_same, same_by, both_sam
 use Rattle.pws_mark.proofs.TakesPieces.{ending_found}
 use Rattle.pws_mark.proofs.Following.{taken_opens, chars_opens, hollowed_opens, spoiled_opens, spoiled_word, outer_behind, found_in, word_behind, word_behind_chars, with_word, opened_by, opens_behind, started_opens, closed, closed_opens, inner_at, close_at, element_end_at, hollow_end_at, section_end_at, comment_end_at}
 
-ending_append : (end : ℕ) (xs ys : List (MarkKind × ℕ)) → ending end (xs ++ ys) ≡ ending end xs ++ ending end ys
+pub ending_append : (end : ℕ) (xs ys : List (MarkKind × ℕ)) → ending end (xs ++ ys) ≡ ending end xs ++ ending end ys
 ending_append end [] ys = refl
 ending_append end (x ∷ xs) ys = ap (λ z. record { kind = x.0; at = x.1; end = end } ∷ z) (ending_append end xs ys)
 
@@ -72,7 +72,7 @@ attributes_same m end (a ∷ more) at seen reads names =
     (both_same ps ps _ _ (same_faults ps) (both_same ts ts _ _ (same_faults ts) (both_same vs vs _ _ (same_faults vs)
     (attributes_same m end more next_at (a ∷ seen) (r ∷ reads) (ap (λ z. a.name ∷ z) names))))))
 
-tag_same : (m : Bindings) (level at end : ℕ) (tag : Tag) → SameFaults (early_faults level at tag ++ ending end (tag_finds m (tag_read at tag))) (tag_faults m level at end tag)
+pub tag_same : (m : Bindings) (level at end : ℕ) (tag : Tag) → SameFaults (early_faults level at tag ++ ending end (tag_finds m (tag_read at tag))) (tag_faults m level at end tag)
 unfolding tag_finds
 tag_same m level at end tag =
     let named_at = at + (1 + length (encode_utf8_all tag.name)) in
@@ -158,14 +158,14 @@ content_noted m at end None = refl
 content_noted m at end (Some word) = ending_found (not (is_bound m (written_prefix (letters word)))) kind.Prefix (first_place word) end
 
 -- at the end of an element
-end_noted : (m : Bindings) (name : List ℕ) (at within end : ℕ) (inner : Content) → ending end (word_finds m at (word_behind inner within (word_in m name))) ≡ (if is_value_name (element_name m name) then content_faults_of m at end (name_within within inner) else [])
+pub end_noted : (m : Bindings) (name : List ℕ) (at within end : ℕ) (inner : Content) → ending end (word_finds m at (word_behind inner within (word_in m name))) ≡ (if is_value_name (element_name m name) then content_faults_of m at end (name_within within inner) else [])
 end_noted m name at within end inner = by (is_value_name (element_name m name))
   where
     by : (v : Bool) → ending end (word_finds m at (word_behind inner within (if v then Some (Some []) else None))) ≡ (if v then content_faults_of m at end (name_within within inner) else [])
     by true = ap (λ w. ending end (word_finds m at w)) (word_whole inner within) ∙ content_noted m at end (name_within within inner)
     by false = ap (λ w. ending end (word_finds m at w)) (word_none inner within)
 
-hollow_noted : (m : Bindings) (at end : ℕ) (tag : Tag) → if_wrong (is_value_name (element_name m tag.name)) kind.Syntax at end ≡ element_faults m at end end tag Nothing
+pub hollow_noted : (m : Bindings) (at end : ℕ) (tag : Tag) → if_wrong (is_value_name (element_name m tag.name)) kind.Syntax at end ≡ element_faults m at end end tag Nothing
 unfolding is_name
 hollow_noted m at end tag = by (is_value_name (element_name m tag.name))
   where
@@ -173,7 +173,7 @@ hollow_noted m at end tag = by (is_value_name (element_name m tag.name))
     by true = refl
     by false = refl
 
-regroup : (xs ys zs rs : List Fault) → (xs ++ (ys ++ zs)) ++ rs ≡ (xs ++ ys) ++ (zs ++ rs)
+pub regroup : (xs ys zs rs : List Fault) → (xs ++ (ys ++ zs)) ++ rs ≡ (xs ++ ys) ++ (zs ++ rs)
 regroup xs ys zs rs = ap (λ z. z ++ rs) (sym (append_assoc xs ys zs)) ∙ append_assoc (xs ++ ys) zs rs
 
 pub bound_around : (o : Outer) (x : Open) (xs : List Open) (tag : Tag) (at : ℕ) → o.opens ≡ x ∷ xs → read_bound (tag_read at tag).attributes (bound_at o.opens) ≡ bound_by tag x.bound

@@ -22,3 +22,4 @@ pub mod Following
 pub mod SameFaults
 pub mod FollowsFaults
 pub mod FollowsEvents
+pub mod Followed

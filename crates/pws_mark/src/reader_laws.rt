@@ -1,6 +1,6 @@
 //! Laws of the reader.
 
-ghost use Rattle.pws_mark.specs.ReaderLaws.{WritesSpell, PlacesCount};
+ghost use Rattle.pws_mark.specs.ReaderLaws.{DocumentsAreFollowed, PlacesCount, WritesSpell};
 ghost use Rattle.pws_mark.specs.TokenLaws.{CommentsAreTaken, EndsAreTaken, StartsAreTaken, HollowsAreTaken, PiecesAreTaken, SectionsAreTaken, HeadsAreTaken};
 
 /// The characters of a document spell it.
@@ -48,7 +48,7 @@ fn heads_are_taken()
     ensures { HeadsAreTaken }
 {}
 
-/// A scratch law.
-fn scratch()
-    ensures { WritesSpell }
+/// The reader takes each document whole, notes its faults and builds what it means.
+fn documents_are_followed()
+    ensures { DocumentsAreFollowed }
 {}
