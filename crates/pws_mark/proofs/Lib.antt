@@ -4,10 +4,6 @@ pub mod Worked
 pub mod Escapes
 pub mod ReadBack
 pub mod ValueReadBack
-pub mod Scalars
-pub mod Letters
-pub mod Opened
-pub mod Declared
 pub mod Going
 pub mod Counted
 pub mod TakesComments
@@ -17,3 +13,13 @@ pub mod TakesPieces
 pub mod TakesSections
 pub mod TakesValues
 pub mod TakesTags
+pub mod Scalars
+pub mod Letters
+pub mod Opened
+pub mod Declared
+pub mod TakesHeads
+pub mod Following
+pub mod SameFaults
+pub mod FollowsFaults
+pub mod FollowsEvents
+pub mod Followed

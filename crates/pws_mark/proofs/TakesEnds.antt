@@ -25,7 +25,7 @@ get_behind (d ∷ done) rest c = get_behind done rest c
 pub has_behind : (done rest : List ℕ) (c : ℕ) → has_at (done ++ c ∷ rest) (length done) c ≡ true
 has_behind done rest c = rw (get_behind done rest c) (eq-eqb c c refl)
 
-has_none_behind : (name : List ℕ) (c : ℕ) → has_at name (length name) c ≡ false
+pub has_none_behind : (name : List ℕ) (c : ℕ) → has_at name (length name) c ≡ false
 has_none_behind name c = rw (slice_get_past name (length name) (omega arith)) refl
 
 -- no character of a name ends a tag

@@ -106,7 +106,7 @@ equals_goes o tag name (c ∷ cs) at white =
     (goes_on_to _ _ _ cs (61 ∷ []) [] [] (goes_round (mode.BeforeEquals tag name) o is_white (λ p d w. rw w refl) (λ d w. refl) cs (at + length (encode_utf8 c)) parts.1)
     (goes_once (mode.BeforeEquals tag name) (mode.AfterEquals tag name) o o (at + length (encode_utf8 c) + length (encode_utf8_all cs)) 61 [] refl refl)))
 
-quote_is : (P : ℕ → Type 0) → P 34 → P 39 → (c : ℕ) → is_quote c ≡ true → P c
+pub quote_is : (P : ℕ → Type 0) → P 34 → P 39 → (c : ℕ) → is_quote c ≡ true → P c
 quote_is P double single c quote = by (c == 34) (c == 39) (eqb-true c 34) (eqb-true c 39) quote
   where
     by : (s t : Bool) → (s ≡ true → c ≡ 34) → (t ≡ true → c ≡ 39) → (s || t) ≡ true → P c

@@ -1,6 +1,6 @@
 //! Laws of the reader.
 
-ghost use Rattle.pws_mark.specs.ReaderLaws.{WritesSpell, PlacesCount};
+ghost use Rattle.pws_mark.specs.ReaderLaws.{DocumentsAreFollowed, PlacesCount, WritesSpell};
 ghost use Rattle.pws_mark.specs.TokenLaws.{CommentsAreTaken, EndsAreTaken, StartsAreTaken, HollowsAreTaken, PiecesAreTaken, SectionsAreTaken, HeadsAreTaken};
 
 /// The characters of a document spell it.
@@ -46,4 +46,9 @@ fn sections_are_taken()
 /// HeadsAreTaken.
 fn heads_are_taken()
     ensures { HeadsAreTaken }
+{}
+
+/// The reader takes each document whole, notes its faults and builds what it means.
+fn documents_are_followed()
+    ensures { DocumentsAreFollowed }
 {}
