@@ -8,3 +8,5 @@ pub mod Scalars
 pub mod Letters
 pub mod Opened
 pub mod Declared
+pub mod SeenNames
+pub mod Outers
