@@ -23,3 +23,5 @@ pub mod SameFaults
 pub mod FollowsFaults
 pub mod FollowsEvents
 pub mod Followed
+pub mod SeenNames
+pub mod Outers

@@ -16,6 +16,7 @@ pub mod ReaderLaws
 pub mod Reading
 pub mod Scan
 pub mod Scopes
+pub mod Seen
 pub mod Spelling
 pub mod States
 pub mod Texts

@@ -3,12 +3,16 @@
 use Rattle.std.specs.Prelude.{◌≡◌, ℕ, Bool, false, not, ◌&&◌, ◌==◌, length, filter, List, [], ◌∷◌, ◌++◌, fold, Option, Some, None}
 use Rattle.std.specs.List.{filter_map}
 use Rattle.std.specs.Str.{bytes_eq}
-use Rattle.pws_mark.specs.Bindings.{Bindings, xmlns_word}
+use Rattle.pws_mark.specs.Bindings.{Bindings, xmlns_word, element_name}
 use Rattle.pws_mark.specs.Canonical.{xml_word}
+use Rattle.pws_mark.specs.Faults.{is_value_name}
+use Rattle.pws_mark.specs.Meaning.{name_of}
 use Rattle.pws_mark.specs.Scan.{has_at}
-use Rattle.pws_mark.specs.States.{Open, bound_at, with_char, read_declared}
+use Rattle.pws_mark.specs.States.{Open, bound_at, with_char, read_declared, read_bound, read_attrs}
 use Rattle.pws_mark.specs.Values.{Marked}
 use Rattle.pws_mark.specs.declared.modes.ReadAttribute.{ReadAttribute}
+use Rattle.pws_mark.specs.declared.modes.ReadTag.{ReadTag}
+use Rattle.pws_mark.specs.declared.outer.Begun.{Begun}
 use Rattle.pws_mark.specs.declared.scopes.OpenElement.{OpenElement}
 
 abbrev pub opened : List Open → OpenElement → List Open
@@ -49,3 +53,10 @@ name_ends (x ∷ xs) n = n == length x.name
 -- what attributes bind
 abbrev pub own_bound : List ReadAttribute → Bindings
 own_bound attributes = filter (λ b. not (bytes_eq b.0 xml_word) && not (bytes_eq b.0 xmlns_word)) (filter_map read_declared attributes)
+
+-- what a complete tag begins
+pub record Begins (b : Begun) (tag : ReadTag) (xs : List Open) : Type 0 where
+  pub scope : b.scope ≡ own_bound tag.attributes
+  pub name : b.name ≡ name_of (read_bound tag.attributes (bound_at xs)) tag.name
+  pub attrs : b.attrs ≡ read_attrs (read_bound tag.attributes (bound_at xs)) tag.attributes
+  pub word : b.is_word ≡ is_value_name (element_name (read_bound tag.attributes (bound_at xs)) tag.name)

@@ -19,10 +19,12 @@ mod least;
 pub mod modes;
 mod declaring;
 mod names;
+mod outer;
 mod references;
 mod resolving;
 mod scopes;
 mod spaces;
+mod seen;
 mod tags;
 #[cfg(test)]
 mod tests;

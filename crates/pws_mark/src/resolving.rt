@@ -17,6 +17,7 @@ use std::alloc::Global;
 use std::marker::Model;
 
 /// What the prefixes are bound to inside of a tag, which contracts see as a list, the innermost declaration first.
+#[derive(Drop)]
 pub struct Inside<'a> {
     pub scope: &'a Scope,
     pub opens: &'a Opens,
