@@ -25,3 +25,4 @@ pub mod FollowsEvents
 pub mod Followed
 pub mod SeenNames
 pub mod Outers
+pub mod Spelled

@@ -52,3 +52,8 @@ fn heads_are_taken()
 fn documents_are_followed()
     ensures { DocumentsAreFollowed }
 {}
+
+/// A scratch law.
+fn scratch()
+    ensures { WritesSpell }
+{}
