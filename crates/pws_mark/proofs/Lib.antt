@@ -26,3 +26,4 @@ pub mod Followed
 pub mod SeenNames
 pub mod Outers
 pub mod Spelled
+pub mod Standing
