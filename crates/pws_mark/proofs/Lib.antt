@@ -27,3 +27,4 @@ pub mod SeenNames
 pub mod Outers
 pub mod Spelled
 pub mod Standing
+pub mod StandingTokens

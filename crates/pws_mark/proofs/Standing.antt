@@ -357,3 +357,76 @@ agrees_with (Behind h root after) c o p names behind agrees = (no_names p.opens 
     no_names : (os : List Open) → names_of os ≡ [] → os ≡ []
     no_names [] e = refl
     no_names (x ∷ xs) e = absurd cc
+
+-- an element is opened
+abbrev pub opened_in : Context → Tag → Context
+opened_in (Before h) tag = Inside h (record { tag = tag; done = Nothing }) []
+opened_in (Inside h f fs) tag = Inside h (record { tag = tag; done = Nothing }) (f ∷ fs)
+opened_in (Behind h root after) tag = Behind h root after
+
+pub written_opened : (x : Context) (tag : Tag) → may_open x ≡ true → written (opened_in x tag) ≡ written x ++ (60 ∷ (write_tag tag ++ 62 ∷ []))
+written_opened (Before h) tag may = refl
+written_opened (Inside h f fs) tag may = sym (append_assoc (write_front h) (write_frames (f ∷ fs)) (60 ∷ (write_tag tag ++ 62 ∷ [])))
+written_opened (Behind h root after) tag may = absurd cc
+
+pub lawful_opened : (x : Context) (tag : Tag) → may_open x ≡ true → LawfulContext x → is_tag tag ≡ true → LawfulContext (opened_in x tag)
+lawful_opened (Before h) tag may lawful is = (lawful, ((is, refl), tt))
+lawful_opened (Inside h f fs) tag may lawful is = (lawful.0, ((is, refl), lawful.1))
+lawful_opened (Behind h root after) tag may lawful is = absurd cc
+
+-- an empty tag
+abbrev pub hollowed_in : Context → Tag → Context
+hollowed_in (Before h) tag = Behind h (Hollow tag Nothing) Nothing
+hollowed_in (Inside h f fs) tag = with_content (Inside h f fs) (Hollow tag Nothing)
+hollowed_in (Behind h root after) tag = Behind h root after
+
+pub written_hollowed : (x : Context) (tag : Tag) → may_open x ≡ true → written (hollowed_in x tag) ≡ written x ++ (60 ∷ (write_tag tag ++ 47 ∷ 62 ∷ []))
+written_hollowed (Before h) tag may = ap (λ z. write_front h ++ z) (append-nil (60 ∷ (write_tag tag ++ 47 ∷ 62 ∷ [])))
+written_hollowed (Inside h f fs) tag may = written_with (Inside h f fs) (Hollow tag Nothing)
+written_hollowed (Behind h root after) tag may = absurd cc
+
+pub lawful_hollowed : (x : Context) (tag : Tag) → may_open x ≡ true → LawfulContext x → is_tag tag ≡ true → LawfulContext (hollowed_in x tag)
+lawful_hollowed (Before h) tag may lawful is = (lawful, record { root = refl; content = and_from _ _ is refl; after = refl })
+lawful_hollowed (Inside h f fs) tag may lawful is = lawful_with (Inside h f fs) (Hollow tag Nothing) lawful (and_from _ _ is refl)
+lawful_hollowed (Behind h root after) tag may lawful is = absurd cc
+
+-- the innermost element is closed
+abbrev pub closed_in_context : Context → List ℕ → Context
+closed_in_context (Before h) gap = Before h
+closed_in_context (Inside h f []) gap = Behind h (Element f.tag f.done gap Nothing) Nothing
+closed_in_context (Inside h f (g ∷ gs)) gap = Inside h (record { tag = g.tag; done = join_content g.done (Element f.tag f.done gap Nothing) }) gs
+closed_in_context (Behind h root after) gap = Behind h root after
+
+abbrev pub innermost : Context → List ℕ
+innermost (Before h) = []
+innermost (Inside h f fs) = f.tag.name
+innermost (Behind h root after) = []
+
+pub written_closed : (x : Context) (gap : List ℕ) → is_inside x ≡ true → written (closed_in_context x gap) ≡ written x ++ (60 ∷ 47 ∷ (innermost x ++ (gap ++ 62 ∷ [])))
+written_closed (Before h) gap inside = absurd cc
+written_closed (Inside h f []) gap inside = one (write_front h) (write_tag f.tag) (write_content f.done) f.tag.name
+  where
+    one : (front tag done name : List ℕ) → front ++ ((60 ∷ (tag ++ 62 ∷ (done ++ 60 ∷ 47 ∷ (name ++ (gap ++ 62 ∷ []))))) ++ []) ≡ (front ++ (60 ∷ (tag ++ 62 ∷ done))) ++ (60 ∷ 47 ∷ (name ++ (gap ++ 62 ∷ [])))
+    one front tag done name = simp (append_assoc, append-nil)
+written_closed (Inside h f (g ∷ gs)) gap inside =
+    ap (λ z. write_front h ++ (write_frames gs ++ (60 ∷ (write_tag g.tag ++ 62 ∷ z)))) (write_join g.done (Element f.tag f.done gap Nothing))
+    ∙ two (write_front h) (write_frames gs) (write_tag g.tag) (write_content g.done) (write_tag f.tag) (write_content f.done) f.tag.name
+  where
+    two : (front before outer outer_done tag done name : List ℕ) → front ++ (before ++ (60 ∷ (outer ++ 62 ∷ (outer_done ++ (60 ∷ (tag ++ 62 ∷ (done ++ 60 ∷ 47 ∷ (name ++ (gap ++ 62 ∷ []))))))))) ≡ (front ++ ((before ++ (60 ∷ (outer ++ 62 ∷ outer_done))) ++ (60 ∷ (tag ++ 62 ∷ done)))) ++ (60 ∷ 47 ∷ (name ++ (gap ++ 62 ∷ [])))
+    two front before outer outer_done tag done name = simp append_assoc
+written_closed (Behind h root after) gap inside = absurd cc
+
+pub lawful_closed : (x : Context) (gap : List ℕ) → is_inside x ≡ true → LawfulContext x → list_all is_white gap ≡ true → LawfulContext (closed_in_context x gap)
+lawful_closed (Before h) gap inside lawful white = absurd cc
+lawful_closed (Inside h f []) gap inside lawful white = (lawful.0, record { root = refl; content = and_from _ _ lawful.1.0.0 (and_from _ _ (lawful_is f.done 0 (omega arith) lawful.1.0.1).lawful (and_from _ _ white refl)); after = refl })
+lawful_closed (Inside h f (g ∷ gs)) gap inside lawful white =
+    let element : lawful_from (marks_behind g.done 0) (Element f.tag f.done gap Nothing) ≡ true = and_from _ _ lawful.1.0.0 (and_from _ _ (lawful_is f.done 0 (omega arith) lawful.1.0.1).lawful (and_from _ _ white refl)) in
+    (lawful.0, ((lawful.1.1.0.0, lawful_join g.done (Element f.tag f.done gap Nothing) 0 lawful.1.1.0.1 element), lawful.1.1.1))
+lawful_closed (Behind h root after) gap inside lawful white = absurd cc
+
+-- a whole document that begins with what was read
+pub record Reaches (front : List ℕ) : Type 0 where
+  pub context : Context
+  pub lawful : LawfulContext context
+  pub more : List ℕ
+  pub is : written context ≡ front ++ more

@@ -1,5 +1,5 @@
-use Rattle.pws_mark.proofs.Standing.{agrees_with}
+use Rattle.pws_mark.proofs.StandingTokens.{section_char}
 use Rattle.pws_mark.proofs.reader_laws.scratch.Goals as goal
 
 pub returns : goal.returns
-returns c = let x = agrees_with in ?
+returns c = let x = section_char in ?
