@@ -28,3 +28,4 @@ pub mod Outers
 pub mod Spelled
 pub mod Standing
 pub mod StandingTokens
+pub mod StandingModes
