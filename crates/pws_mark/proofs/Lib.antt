@@ -29,3 +29,4 @@ pub mod Spelled
 pub mod Standing
 pub mod StandingTokens
 pub mod StandingModes
+pub mod StandingSteps

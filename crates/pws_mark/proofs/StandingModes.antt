@@ -313,7 +313,7 @@ abbrev pub Stands : Mode × Outer → List ℕ → Type 0
 Stands z front = StandsIn z.0 z.1 front
 
 -- one character more
-pub at_more : (o : Outer) (front part more : List ℕ) (c : ℕ) → part ++ c ∷ [] ≡ more → At o front part → At o (front ++ c ∷ []) more
+abbrev pub at_more : (o : Outer) (front part more : List ℕ) (c : ℕ) → part ++ c ∷ [] ≡ more → At o front part → At o (front ++ c ∷ []) more
 at_more o front part more c e h = record {
   context = h.context;
   lawful = h.lawful;
@@ -322,7 +322,7 @@ at_more o front part more c e h = record {
 }
 
 -- a token is whole
-pub at_turned : (o p : Outer) (front part : List ℕ) (c : ℕ) (h : At o front part) (x : Context) → LawfulContext x → Agrees x p → written x ≡ written h.context ++ (part ++ c ∷ []) → At p (front ++ c ∷ []) []
+abbrev pub at_turned : (o p : Outer) (front part : List ℕ) (c : ℕ) (h : At o front part) (x : Context) → LawfulContext x → Agrees x p → written x ≡ written h.context ++ (part ++ c ∷ []) → At p (front ++ c ∷ []) []
 at_turned o p front part c h x lawful agrees is = record {
   context = x;
   lawful = lawful;
