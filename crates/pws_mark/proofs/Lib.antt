@@ -30,3 +30,4 @@ pub mod Standing
 pub mod StandingTokens
 pub mod StandingModes
 pub mod StandingSteps
+pub mod StandingTags
