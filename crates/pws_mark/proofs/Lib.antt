@@ -31,3 +31,4 @@ pub mod StandingTokens
 pub mod StandingModes
 pub mod StandingSteps
 pub mod StandingTags
+pub mod StandingValues

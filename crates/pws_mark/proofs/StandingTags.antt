@@ -29,7 +29,7 @@ use Rattle.pws_mark.proofs.StandingModes.{InContent, MarksAre, Stands, StandsIn,
 use Rattle.pws_mark.proofs.StandingSteps.{which_stays, never}
 
 -- one character more in a tag
-in_tag_more : (word more last : List ℕ) (o : Outer) (front : List ℕ) (c : ℕ) → more ++ c ∷ [] ≡ last → InTheTag word more o front → InTheTag word last o (front ++ c ∷ [])
+pub in_tag_more : (word more last : List ℕ) (o : Outer) (front : List ℕ) (c : ℕ) → more ++ c ∷ [] ≡ last → InTheTag word more o front → InTheTag word last o (front ++ c ∷ [])
 in_tag_more word more last o front c e h = record {
   attributes = h.attributes;
   here = at_more o front (tag_front word h.attributes more) (tag_front word h.attributes last) c (on word (flat_map write_attribute h.attributes) more ∙ ap (λ z. tag_front word h.attributes z) e) h.here;
@@ -41,10 +41,10 @@ in_tag_more word more last o front c e h = record {
     on : (word attributes more : List ℕ) → (60 ∷ (word ++ (attributes ++ more))) ++ c ∷ [] ≡ 60 ∷ (word ++ (attributes ++ (more ++ c ∷ [])))
     on word attributes more = simp append_assoc
 
-white_one : (gap : List ℕ) (c : ℕ) → list_all is_white gap ≡ true → is_white c ≡ true → list_all is_white (gap ++ c ∷ []) ≡ true
+pub white_one : (gap : List ℕ) (c : ℕ) → list_all is_white gap ≡ true → is_white c ≡ true → list_all is_white (gap ++ c ∷ []) ≡ true
 white_one gap c white is = list_all-append is_white gap (c ∷ []) ∙ and_from _ _ white (and_from _ _ is refl)
 
-gap_one : (gap : List ℕ) (c : ℕ) → list_all is_white gap ≡ true → is_white c ≡ true → is_gap (gap ++ c ∷ []) ≡ true
+pub gap_one : (gap : List ℕ) (c : ℕ) → list_all is_white gap ≡ true → is_white c ≡ true → is_gap (gap ++ c ∷ []) ≡ true
 gap_one [] c white is = and_from _ _ is refl
 gap_one (d ∷ gap) c white is = white_one (d ∷ gap) c white is
 
@@ -65,7 +65,7 @@ hollowed_names : (o : Outer) (tag : ReadTag) → (names_of (hollowed o tag).open
 unfolding hollowed
 hollowed_names o tag = (spoiled_names o.opens, refl)
 
-no_names : (os : List Open) → names_of os ≡ [] → os ≡ []
+pub no_names : (os : List Open) → names_of os ≡ [] → os ≡ []
 no_names [] e = refl
 no_names (x ∷ xs) e = absurd cc
 
