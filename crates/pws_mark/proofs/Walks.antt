@@ -49,7 +49,7 @@ note_step ns i n now after total here within noted h =
     let split : uses (nodes_of (drop i ns)) ≡ uses (node_then n NoNode) ++ uses (nodes_of (drop (i + 1) ns)) = ap (λ z. uses (nodes_of z)) (drop_from_item ns i n here within) ∙ uses_of_first n (nodes_of (drop (i + 1) ns)) in
     ap (λ z. fold with_space z (uses (nodes_of (drop (i + 1) ns)))) noted ∙ (sym (fold_append now (uses (node_then n NoNode)) (uses (nodes_of (drop (i + 1) ns)))) ∙ (ap (fold with_space now) (sym split) ∙ h))
 
-drop_all : {A : Type 0} (xs : List A) (i : ℕ) → length xs ≤ i → drop i xs ≡ []
+pub drop_all : {A : Type 0} (xs : List A) (i : ℕ) → length xs ≤ i → drop i xs ≡ []
 drop_all [] zero h = refl
 drop_all [] (suc i) h = refl
 drop_all (x ∷ xs) zero h = absurd (omega arith)

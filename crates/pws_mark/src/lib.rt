@@ -17,9 +17,20 @@
 
 pub mod errors;
 pub mod laws;
+mod least;
+pub mod modes;
+mod declaring;
+mod names;
+mod outer;
+mod references;
+mod resolving;
+mod scopes;
 mod spaces;
+mod seen;
+mod tags;
 #[cfg(test)]
 mod tests;
+mod reader_laws;
 pub mod writing;
 
 ghost use Rattle.pws_mark.specs.Examples.{WorkedTexts};

@@ -1,0 +1,8 @@
+use Rattle.std.specs.String.{string_bytes}
+use Rattle.pws_mark.proofs.Letters.{encoded_more}
+use Rattle.pws_mark.proofs.names.text_of.Goals as goal
+
+pub loop-c-preserved : goal.loop-c-preserved
+loop-c-preserved c =
+    encoded_more c.args.chars.now c.loop-c.c-index c.c-item.result (string_bytes c.loop-c.text) (string_bytes c.push.new.self)
+    c.loop-c-test.true c.c-item.is c.loop-c.invariant c.in_ok-push.ensures.bytes

@@ -1,0 +1,133 @@
+//! What is around a token: the open elements, and what was read.
+
+ghost use Rattle.std.specs.Prelude.{◌≡◌, ◌<◌, ◌++◌, [], ◌∷◌, Some, None, OnOk, IfOk};
+ghost use Rattle.pws_mark.specs.Least.{lowered};
+ghost use Rattle.pws_mark.specs.Noted.{tag_finds, start_finds, hollow_finds, end_finds};
+ghost use Rattle.pws_mark.specs.Meaning.{char_text};
+ghost use Rattle.pws_mark.specs.Scan.{region, outside};
+ghost use Rattle.pws_mark.specs.Scopes.{Begins};
+ghost use Rattle.pws_mark.specs.States.{bound_at, read_bound, flushed, started, hollowed, taken};
+
+use crate::least::Least;
+use crate::modes::{Event, ReadTag, Region};
+use crate::resolving::{Inside, is_value_name, or_no_name};
+use crate::scopes::{OpenElement, Opens, Scope};
+use crate::tags::{attrs_of, note_tag, scope_of};
+use pws_base::lists::Sequence;
+use pws_base::memory::Memory;
+use pws_tree::texts::{Attr, Name, Text};
+use std::alloc::Global;
+use std::marker::Model;
+use std::mem;
+
+/// The open elements, whether the root is closed, what was read, and the text behind it.
+#[derive(Drop)]
+pub struct Outer {
+    opens: Opens,
+    behind: bool,
+    events: Sequence<Event>,
+    text: String,
+}
+
+impl Model for Outer {
+    ghost use Rattle.std.specs.String.{string_bytes};
+    ghost use Rattle.pws_mark.specs.States.{Outer};
+
+    ghost Value = { Outer };
+
+    ghost view = { λ o. record { opens = o.opens; behind = o.behind; events = o.events; text = string_bytes o.text } };
+}
+
+impl Outer {
+    /// Nothing was read.
+    ///
+    /// # Errors
+    ///
+    /// `Memory` only.
+    pub fn new(alloc: Global) -> Result<Outer, Memory>
+        ensures { IfOk result (λ o. o ≡ outside) }
+    {
+        Ok(Outer {
+            opens: Opens::new(alloc)?,
+            behind: false,
+            events: Sequence::new(alloc),
+            text: String::new(alloc),
+        })
+    }
+
+    /// Where the place stands to the element.
+    pub fn region(&self) -> Region
+        ensures { result ≡ region self.now }
+    {
+        if !self.opens.is_empty() {
+            return Region::Inside;
+        }
+        if self.behind {
+            return Region::Behind;
+        }
+        Region::Before
+    }
+}
+
+/// What a complete tag begins.
+#[derive(Drop)]
+struct Begun {
+    scope: Scope,
+    name: Name,
+    attrs: Sequence<Attr>,
+    is_word: bool,
+}
+
+/// What a complete tag begins among these open elements; what is refused in it is noted.
+#[tactic(auto, unfolding(crate::specs::States::read_bound, crate::specs::Meaning::name_of))]
+fn begin(alloc: Global, least: &mut Least, opens: &Opens, tag: &ReadTag) -> Result<Begun, Memory>
+    requires { tag.now.at < 32768 }
+    ensures begun { IfOk result (λ b. Begins b tag.now opens.now) }
+    ensures least { OnOk result (least.new ≡ lowered least.old (tag_finds (read_bound tag.now.attributes (bound_at opens.now)) tag.now)) }
+{
+    let scope = scope_of(alloc, tag.attributes.as_slice())?;
+    let inside = Inside {
+        scope: &scope,
+        opens,
+    };
+    note_tag(alloc, least, &inside, tag)?;
+    let name = inside.element_name(alloc, tag.name.as_slice())?;
+    let attrs = attrs_of(alloc, &inside, tag.attributes.as_slice())?;
+    let is_word = is_value_name(&name);
+    Ok(Begun {
+        scope,
+        name: or_no_name(alloc, name),
+        attrs,
+        is_word,
+    })
+}
+
+impl Outer {
+    /// The text so far is whole.
+    fn flush(&mut self, alloc: Global) -> Result<(), Memory>
+        ensures { OnOk result (self.new ≡ record { opens = self.old.opens; behind = self.old.behind; events = flushed self.old.events self.old.text; text = [] }) }
+    {
+        if !self.text.is_empty() {
+            let text = mem::replace(&mut self.text, String::new(alloc));
+            self.events.push(Event::Text(Text::from_string(text)))?;
+        }
+        Ok(())
+    }
+
+    /// A character of content, or a reference to no character, at its place; it is text, as these characters.
+    fn take(&mut self, at: usize, c: Option<char>, text: Option<char>) -> Result<(), Memory>
+        ensures { OnOk result (self.new ≡ taken self.old at c (char_text text)) }
+    {
+        if self.opens.is_word() {
+            self.opens.keep(at, c)?;
+            return Ok(());
+        }
+        if self.opens.is_empty() {
+            return Ok(());
+        }
+        if let Some(c) = text {
+            self.text.push(c)?;
+        }
+        Ok(())
+    }
+}

@@ -1,0 +1,54 @@
+//! Laws of the reader.
+
+ghost use Rattle.pws_mark.specs.ReaderLaws.{DocumentsAreFollowed, PlacesCount, WritesSpell};
+ghost use Rattle.pws_mark.specs.TokenLaws.{CommentsAreTaken, EndsAreTaken, StartsAreTaken, HollowsAreTaken, PiecesAreTaken, SectionsAreTaken, HeadsAreTaken};
+
+/// The characters of a document spell it.
+fn writes_spell()
+    ensures { WritesSpell }
+{}
+
+/// The place is the number of bytes that were read.
+fn places_count()
+    ensures { PlacesCount }
+{}
+
+/// A comment is taken.
+fn comments_are_taken()
+    ensures { CommentsAreTaken }
+{}
+
+/// An end tag is taken.
+fn ends_are_taken()
+    ensures { EndsAreTaken }
+{}
+
+/// A start tag is taken.
+fn starts_are_taken()
+    ensures { StartsAreTaken }
+{}
+
+/// The tag of an element without content is taken.
+fn hollows_are_taken()
+    ensures { HollowsAreTaken }
+{}
+
+/// A character, or a reference, in content is taken.
+fn pieces_are_taken()
+    ensures { PiecesAreTaken }
+{}
+
+/// A section of character data is taken.
+fn sections_are_taken()
+    ensures { SectionsAreTaken }
+{}
+
+/// The head of a document is taken.
+fn heads_are_taken()
+    ensures { HeadsAreTaken }
+{}
+
+/// The reader takes each document whole, notes its faults and builds what it means.
+fn documents_are_followed()
+    ensures { DocumentsAreFollowed }
+{}

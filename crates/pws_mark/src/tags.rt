@@ -1,0 +1,250 @@
+//! What a complete tag declares, has and shows to be refused.
+
+ghost use Rattle.std.specs.Prelude.{◌≡◌, ◌<◌, ◌≤◌, ◌+◌, ◌++◌, [], ◌∷◌, ◌&&◌, ◌||◌, length, option_map, unwrap_or, reverse, take, Some, None, get_or, slice_get, OnOk, IfOk};
+ghost use Rattle.std.specs.List.{filter_map, list_any};
+ghost use Rattle.std.specs.Str.{bytes_eq};
+ghost use Rattle.pws_mark.specs.Bindings.{is_space, is_wrong_declaration, xmlns_word};
+ghost use Rattle.pws_mark.specs.Seen.{attribute_finds, finds_behind, names_of};
+ghost use Rattle.pws_mark.specs.Canonical.{xml_word, xml_space};
+ghost use Rattle.pws_tree.specs.Names.{xmlns_space};
+ghost use Rattle.pws_mark.specs.Least.{lowered};
+ghost use Rattle.pws_mark.specs.Noted.{if_found, is_wrong_read, tag_finds};
+ghost use Rattle.pws_mark.specs.Faults.{is_wrong_name};
+ghost use Rattle.pws_mark.specs.declared.errors.MarkKind.TheVariants as kind;
+ghost use Rattle.pws_mark.specs.Scopes.{own_bound};
+ghost use Rattle.pws_mark.specs.States.{read_attr, read_attrs, prefix_declared};
+
+use crate::errors::MarkKind;
+use crate::least::Least;
+use crate::modes::{ReadAttribute, ReadTag};
+use crate::names::{has_two_colons, letters_of, prefix_declared};
+use crate::resolving::{Inside, or_no_name};
+use crate::scopes::Scope;
+use crate::seen::Seen;
+use crate::spaces::XML_SPACE;
+use pws_base::lists::{ExactCopy, Sequence};
+use pws_base::memory::Memory;
+use pws_tree::texts::{Attr, Text};
+use std::alloc::Global;
+
+/// Namespaces in XML 1.0, section 3.
+const XMLNS_SPACE: &str = "http://www.w3.org/2000/xmlns/";
+
+/// A copy of a namespace, if it is known.
+fn copy_space(alloc: Global, space: &Option<Text>) -> Result<Option<Text>, Memory>
+    ensures { IfOk result (λ s. s ≡ space.now) }
+{
+    match space {
+        Some(space) => Ok(Some(space.copy(alloc)?)),
+        None => Ok(None),
+    }
+}
+
+/// Whether a prefix can't be bound.
+#[tactic(auto, unfolding(crate::specs::Canonical::xml_word, crate::specs::Bindings::xmlns_word))]
+fn is_fixed(prefix: &[char]) -> bool
+    ensures { result ≡ (bytes_eq prefix.now xml_word || bytes_eq prefix.now xmlns_word) }
+{
+    prefix == ['x', 'm', 'l'].as_slice() || prefix == ['x', 'm', 'l', 'n', 's'].as_slice()
+}
+
+/// Notes what an attribute declares.
+fn declare(
+    alloc: Global,
+    scope: &mut Scope,
+    attribute: &ReadAttribute,
+) -> Result<(), Memory>
+    ensures { OnOk result (scope.new ≡ scope.old ++ own_bound (attribute.now ∷ [])) }
+{
+    if let Some(prefix) = prefix_declared(attribute.name.as_slice()) {
+        if !is_fixed(prefix) {
+            scope.push(letters_of(alloc, prefix)?, copy_space(alloc, &attribute.value)?)?;
+        }
+    }
+    Ok(())
+}
+
+/// What attributes declare, in order.
+///
+/// # Errors
+///
+/// `Memory` only.
+pub fn scope_of(alloc: Global, attributes: &[ReadAttribute]) -> Result<Scope, Memory>
+    ensures { IfOk result (λ s. s ≡ own_bound attributes.now) }
+{
+    let mut scope = Scope::new(alloc);
+    for attribute in attributes {
+        declare(alloc, &mut scope, attribute)?;
+    }
+    Ok(scope)
+}
+
+/// The value, or an empty one.
+fn or_empty(alloc: Global, value: Option<Text>) -> Text
+    ensures { result ≡ unwrap_or value [] }
+{
+    match value {
+        Some(value) => value,
+        None => Text::new(alloc),
+    }
+}
+
+/// An attribute, where it isn't a declaration.
+fn attr_of(alloc: Global, inside: &Inside, attribute: &ReadAttribute) -> Result<Option<Attr>, Memory>
+    ensures { IfOk result (λ a. a ≡ read_attr inside.now attribute.now) }
+{
+    if prefix_declared(attribute.name.as_slice()).is_some() {
+        return Ok(None);
+    }
+    let name = inside.attribute_name(alloc, attribute.name.as_slice())?;
+    let value = copy_space(alloc, &attribute.value)?;
+    Ok(Some(Attr {
+        name: or_no_name(alloc, name),
+        value: or_empty(alloc, value),
+    }))
+}
+
+/// Adds an attribute, where it isn't a declaration.
+#[tactic(auto, unfolding(crate::specs::States::read_attrs))]
+fn add_attr(
+    alloc: Global,
+    inside: &Inside,
+    attrs: &mut Sequence<Attr>,
+    attribute: &ReadAttribute,
+) -> Result<(), Memory>
+    ensures { OnOk result (attrs.new ≡ attrs.old ++ read_attrs inside.now (attribute.now ∷ [])) }
+{
+    if let Some(attr) = attr_of(alloc, inside, attribute)? {
+        attrs.push(attr)?;
+    }
+    Ok(())
+}
+
+/// The attributes of a tag, in the order of the text.
+///
+/// # Errors
+///
+/// `Memory` only.
+#[tactic(auto, unfolding(crate::specs::States::read_attrs))]
+pub fn attrs_of(
+    alloc: Global,
+    inside: &Inside,
+    attributes: &[ReadAttribute],
+) -> Result<Sequence<Attr>, Memory>
+    ensures { IfOk result (λ a. a ≡ read_attrs inside.now attributes.now) }
+{
+    let mut attrs = Sequence::new(alloc);
+    for attribute in attributes {
+        add_attr(alloc, inside, &mut attrs, attribute)?;
+    }
+    Ok(attrs)
+}
+
+/// Whether a value is this namespace.
+fn is_space(value: &Option<Text>, space: &str) -> bool
+    ensures { result ≡ is_space value.now space.now }
+{
+    match value {
+        Some(value) => value.as_str() == space,
+        None => false,
+    }
+}
+
+/// Whether a namespace can't be bound to other prefixes than its own.
+#[tactic(auto, unfolding(crate::specs::Canonical::xml_space, pws_tree::specs::Names::xmlns_space))]
+fn is_fixed_space(value: &Option<Text>) -> bool
+    ensures { result ≡ (is_space value.now xml_space || is_space value.now xmlns_space) }
+{
+    is_space(value, XML_SPACE) || is_space(value, XMLNS_SPACE)
+}
+
+/// Whether a declaration is refused.
+#[tactic(auto, unfolding(crate::specs::Canonical::xml_word, crate::specs::Canonical::xml_space, crate::specs::Bindings::xmlns_word))]
+fn is_wrong_declaration(prefix: &[char], value: &Option<Text>) -> bool
+    ensures { result ≡ is_wrong_declaration prefix.now value.now }
+{
+    if prefix == ['x', 'm', 'l', 'n', 's'].as_slice() {
+        return true;
+    }
+    if prefix == ['x', 'm', 'l'].as_slice() {
+        return !is_space(value, XML_SPACE);
+    }
+    if is_fixed_space(value) {
+        return true;
+    }
+    !prefix.is_empty() && is_space(value, "")
+}
+
+/// Whether an attribute's name, or what it declares, is refused.
+fn is_wrong(inside: &Inside, attribute: &ReadAttribute) -> bool
+    ensures { result ≡ is_wrong_read inside.now attribute.now (prefix_declared attribute.now.name) }
+{
+    let name = attribute.name.as_slice();
+    match prefix_declared(name) {
+        Some(prefix) => has_two_colons(name) || is_wrong_declaration(prefix, &attribute.value),
+        None => inside.is_wrong_name(name),
+    }
+}
+
+/// Notes what is refused in an attribute, behind others.
+#[tactic(auto, unfolding(crate::specs::Least::lowered))]
+fn note_attribute(
+    alloc: Global,
+    least: &mut Least,
+    inside: &Inside,
+    seen: &mut Seen,
+    attribute: &ReadAttribute,
+) -> Result<(), Memory>
+    ensures least { OnOk result (least.new ≡ lowered least.old (attribute_finds inside.now seen.old attribute.now)) }
+    ensures seen { OnOk result (seen.new ≡ names_of inside.now attribute.now ∷ seen.old) }
+{
+    let name = attribute.name.as_slice();
+    let bound = inside.read_name(alloc, name)?;
+    least.note_if(is_wrong(inside, attribute), MarkKind::Prefix, attribute.at);
+    least.note_if(seen.has(name, &bound), MarkKind::Twice, attribute.at);
+    seen.push(alloc, name, bound)
+}
+
+/// Notes what is refused in the attributes of a tag.
+fn note_attributes(
+    alloc: Global,
+    least: &mut Least,
+    inside: &Inside,
+    attributes: &[ReadAttribute],
+) -> Result<(), Memory>
+    ensures { OnOk result (least.new ≡ lowered least.old (finds_behind inside.now [] attributes.now)) }
+{
+    let mut seen = Seen::new(alloc);
+    for attribute in attributes {
+        note_attribute(alloc, least, inside, &mut seen, attribute)?;
+    }
+    Ok(())
+}
+
+/// Notes a wrong name of a complete tag.
+fn note_name(least: &mut Least, inside: &Inside, tag: &ReadTag)
+    requires { tag.now.at < 32768 }
+    ensures { least.new ≡ lowered least.old (if_found (is_wrong_name inside.now tag.now.name) kind.Prefix (tag.now.at + 1)) }
+{
+    let wrong = inside.is_wrong_name(tag.name.as_slice());
+    least.note_if(wrong, MarkKind::Prefix, tag.at + 1);
+}
+
+/// Notes what is refused in a complete tag.
+///
+/// # Errors
+///
+/// `Memory` only.
+pub fn note_tag(
+    alloc: Global,
+    least: &mut Least,
+    inside: &Inside,
+    tag: &ReadTag,
+) -> Result<(), Memory>
+    requires { tag.now.at < 32768 }
+    ensures { OnOk result (least.new ≡ lowered least.old (tag_finds inside.now tag.now)) }
+{
+    note_name(least, inside, tag);
+    note_attributes(alloc, least, inside, tag.attributes.as_slice())?;
+    Ok(())
+}
