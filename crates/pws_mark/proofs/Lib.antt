@@ -32,3 +32,6 @@ pub mod StandingModes
 pub mod StandingSteps
 pub mod StandingTags
 pub mod StandingValues
+pub mod StandingHeads
+pub mod StandingDeclarations
+pub mod StandingRuns

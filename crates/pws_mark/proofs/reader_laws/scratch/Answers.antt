@@ -1,5 +1,5 @@
-use Rattle.pws_mark.proofs.StandingValues.{opened_stands}
+use Rattle.pws_mark.proofs.StandingRuns.{stand}
 use Rattle.pws_mark.proofs.reader_laws.scratch.Goals as goal
 
 pub returns : goal.returns
-returns c = let x = opened_stands in ?
+returns c = let x = stand in ?
