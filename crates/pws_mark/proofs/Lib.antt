@@ -35,3 +35,4 @@ pub mod StandingValues
 pub mod StandingHeads
 pub mod StandingDeclarations
 pub mod StandingRuns
+pub mod StandingEnds
