@@ -36,3 +36,4 @@ pub mod StandingHeads
 pub mod StandingDeclarations
 pub mod StandingRuns
 pub mod StandingEnds
+pub mod StandingDeclared

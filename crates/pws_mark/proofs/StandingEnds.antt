@@ -67,7 +67,7 @@ text_hexadecimal : (place n : ℕ) (o : Outer) → Ends (mode.TextReference plac
 unfolding next reference_step
 text_hexadecimal place n o = then_ends _ _ o _ 59 refl (content_ends 0 false _)
 
-text_ends : (place : ℕ) (r : Reference) (o : Outer) → Ends (mode.TextReference place r) o
+pub text_ends : (place : ℕ) (r : Reference) (o : Outer) → Ends (mode.TextReference place r) o
 unfolding next reference_step name_start_ranges name_more_ranges
 text_ends place reference.Begun o = then_ends _ _ o o 97 refl (text_entity place _ o)
 text_ends place (reference.Entity name true) o = then_ends _ _ o o 97 refl (text_entity place _ o)
@@ -86,7 +86,7 @@ comment_begun : (o : Outer) → Ends (mode.Comment 0) o
 unfolding next xml_ranges
 comment_begun o = then_ends _ (mode.Comment 1) o o 45 refl (then_ends _ (mode.Comment 2) o o 45 refl (comment_closed o))
 
-comment_ends : (n : ℕ) (o : Outer) → Ends (mode.Comment n) o
+pub comment_ends : (n : ℕ) (o : Outer) → Ends (mode.Comment n) o
 unfolding next xml_ranges
 comment_ends n o = by (n == 2) refl
   where
@@ -94,7 +94,7 @@ comment_ends n o = by (n == 2) refl
     by true e = subst (λ k. Ends (mode.Comment k) o) (sym (eqb-true n 2 e)) (comment_closed o)
     by false e = then_ends _ (mode.Comment 0) o o 97 (rw e refl) (comment_begun o)
 
-dash_ends : (o : Outer) → Ends mode.Dash o
+pub dash_ends : (o : Outer) → Ends mode.Dash o
 unfolding next
 dash_ends o = then_ends _ _ o o 45 refl (comment_begun o)
 
@@ -103,7 +103,7 @@ bang_dash region_is.Before = refl
 bang_dash region_is.Inside = refl
 bang_dash region_is.Behind = refl
 
-bang_ends : (o : Outer) → Ends mode.Bang o
+pub bang_ends : (o : Outer) → Ends mode.Bang o
 unfolding next
 bang_ends o = then_ends _ _ o o 45 (ap (stays o) (bang_dash (region o))) (dash_ends o)
 
@@ -113,15 +113,15 @@ opened_bang region_is.Before place = refl
 opened_bang region_is.Inside place = refl
 opened_bang region_is.Behind place = refl
 
-opened_ends : (place : ℕ) (o : Outer) → Ends (mode.Opened place) o
+pub opened_ends : (place : ℕ) (o : Outer) → Ends (mode.Opened place) o
 unfolding next
 opened_ends place o = then_ends _ _ o o 33 (ap (stays o) (opened_bang (region o) place)) (bang_ends o)
 
-head_opened_ends : (place : ℕ) (o : Outer) → Ends (mode.HeadOpened place) o
+pub head_opened_ends : (place : ℕ) (o : Outer) → Ends (mode.HeadOpened place) o
 unfolding next
 head_opened_ends place o = then_ends _ _ o o 33 (ap (stays o) (opened_bang region_is.Before place)) (bang_ends o)
 
-start_ends : (marked : Bool) (o : Outer) → Ends (mode.Start marked) o
+pub start_ends : (marked : Bool) (o : Outer) → Ends (mode.Start marked) o
 unfolding next
 start_ends marked o = then_ends _ _ o o 32 refl (content_ends 0 false o)
 
@@ -134,7 +134,7 @@ section_begun : (ret : Bool) (o : Outer) → Ends (mode.Section 0 ret) o
 unfolding next
 section_begun ret o = then_ends _ (mode.Section 1 ret) o o 93 refl (then_ends _ (mode.Section 2 ret) o o 93 refl (section_closed ret o))
 
-section_ends : (n : ℕ) (ret : Bool) (o : Outer) → Ends (mode.Section n ret) o
+pub section_ends : (n : ℕ) (ret : Bool) (o : Outer) → Ends (mode.Section n ret) o
 unfolding next xml_ranges
 section_ends n ret o = by (n == 2) refl
   where
@@ -166,7 +166,7 @@ word_zero : (o : Outer) → Ends (mode.SectionWord 0) o
 unfolding next section_word
 word_zero o = then_ends _ (mode.SectionWord 1) o o 67 refl (word_one o)
 
-section_word_ends : (n : ℕ) (o : Outer) → Ends (mode.SectionWord n) o
+pub section_word_ends : (n : ℕ) (o : Outer) → Ends (mode.SectionWord n) o
 section_word_ends zero o = word_zero o
 section_word_ends (suc zero) o = word_one o
 section_word_ends (suc (suc zero)) o = word_two o
@@ -176,7 +176,7 @@ section_word_ends (suc (suc (suc (suc (suc zero))))) o = word_five o
 section_word_ends (suc (suc (suc (suc (suc (suc n)))))) o = record { reaches = λ front h. absurd (omega (arith, h.few)) }
 
 -- in a tag
-slash_ends : (t : ReadTag) (o : Outer) → Ends (mode.Slash t) o
+pub slash_ends : (t : ReadTag) (o : Outer) → Ends (mode.Slash t) o
 unfolding next
 slash_ends t o = then_ends _ _ o _ 62 refl (content_ends 0 false _)
 
@@ -184,12 +184,12 @@ tag_name_whole : (t : ReadTag) (o : Outer) → Ends (mode.TagName t false) o
 unfolding next name_start_ranges name_more_ranges
 tag_name_whole t o = then_ends _ _ o o 47 refl (slash_ends t o)
 
-tag_name_ends : (t : ReadTag) (starts : Bool) (o : Outer) → Ends (mode.TagName t starts) o
+pub tag_name_ends : (t : ReadTag) (starts : Bool) (o : Outer) → Ends (mode.TagName t starts) o
 unfolding next name_start_ranges
 tag_name_ends t true o = then_ends _ _ o o 97 refl (tag_name_whole _ o)
 tag_name_ends t false o = tag_name_whole t o
 
-in_tag_ends : (t : ReadTag) (spaced : Bool) (o : Outer) → Ends (mode.InTag t spaced) o
+pub in_tag_ends : (t : ReadTag) (spaced : Bool) (o : Outer) → Ends (mode.InTag t spaced) o
 unfolding next name_start_ranges
 in_tag_ends t true o = then_ends _ _ o o 47 refl (slash_ends t o)
 in_tag_ends t false o = then_ends _ _ o o 47 refl (slash_ends t o)
@@ -207,15 +207,15 @@ quote_ends q is = by (q == 34) refl
     by true e = subst (λ k. (is_value_char k k ≡ false) × ((k == 38) ≡ false)) (sym (eqb-true q 34 e)) (refl, refl)
     by false e = subst (λ k. (is_value_char k k ≡ false) × ((k == 38) ≡ false)) (sym (eqb-true q 39 (other_one (q == 34) (q == 39) is e))) (refl, refl)
 
-value_ends : (t : ReadTag) (n : ReadName) (v : ReadValue) (o : Outer) → Ends (mode.Value t n v) o
+pub value_ends : (t : ReadTag) (n : ReadName) (v : ReadValue) (o : Outer) → Ends (mode.Value t n v) o
 unfolding next
 value_ends t n v o = record { reaches = λ front h. let q = quote_ends v.quote h.quote in (then_ends (mode.Value t n v) (mode.InTag (with_attribute t n v) false) o o v.quote (rw (q.0, q.1, eq-eqb v.quote v.quote refl) refl) (in_tag_ends _ false o)).reaches front h }
 
-after_equals_ends : (t : ReadTag) (n : ReadName) (o : Outer) → Ends (mode.AfterEquals t n) o
+pub after_equals_ends : (t : ReadTag) (n : ReadName) (o : Outer) → Ends (mode.AfterEquals t n) o
 unfolding next
 after_equals_ends t n o = then_ends _ _ o o 34 refl (value_ends t n _ o)
 
-before_equals_ends : (t : ReadTag) (n : ReadName) (o : Outer) → Ends (mode.BeforeEquals t n) o
+pub before_equals_ends : (t : ReadTag) (n : ReadName) (o : Outer) → Ends (mode.BeforeEquals t n) o
 unfolding next
 before_equals_ends t n o = then_ends _ _ o o 61 refl (after_equals_ends t n o)
 
@@ -223,7 +223,7 @@ attribute_name_whole : (t : ReadTag) (n : ReadName) (o : Outer) → Ends (mode.A
 unfolding next name_start_ranges name_more_ranges
 attribute_name_whole t n o = then_ends _ _ o o 61 refl (after_equals_ends t n o)
 
-attribute_name_ends : (t : ReadTag) (n : ReadName) (starts : Bool) (o : Outer) → Ends (mode.AttributeName t n starts) o
+pub attribute_name_ends : (t : ReadTag) (n : ReadName) (starts : Bool) (o : Outer) → Ends (mode.AttributeName t n starts) o
 unfolding next name_start_ranges
 attribute_name_ends t n true o = then_ends _ _ o o 97 refl (attribute_name_whole t _ o)
 attribute_name_ends t n false o = attribute_name_whole t n o
@@ -241,7 +241,7 @@ value_hexadecimal : (t : ReadTag) (n : ReadName) (v : ReadValue) (place k : ℕ)
 unfolding next reference_step
 value_hexadecimal t n v place k o = then_ends _ _ o o 59 refl (value_ends t n _ o)
 
-value_reference_ends : (t : ReadTag) (n : ReadName) (v : ReadValue) (place : ℕ) (r : Reference) (o : Outer) → Ends (mode.ValueReference t n v place r) o
+pub value_reference_ends : (t : ReadTag) (n : ReadName) (v : ReadValue) (place : ℕ) (r : Reference) (o : Outer) → Ends (mode.ValueReference t n v place r) o
 unfolding next reference_step name_start_ranges name_more_ranges
 value_reference_ends t n v place reference.Begun o = then_ends _ _ o o 97 refl (value_entity t n v place _ o)
 value_reference_ends t n v place (reference.Entity name true) o = then_ends _ _ o o 97 refl (value_entity t n v place _ o)
@@ -275,7 +275,7 @@ name_closes : (o : Outer) (x : Open) (xs : List Open) (done : List ℕ) → o.op
 unfolding next
 name_closes o x xs done e name = ap (λ os. end_name_step o os (length done) 62) e ∙ rw (name, has_none_behind done 62, eq-eqb (length done) (length done) refl) refl
 
-end_gap_ends : (o : Outer) → Ends mode.EndGap o
+pub end_gap_ends : (o : Outer) → Ends mode.EndGap o
 unfolding next
 end_gap_ends o = record { reaches = λ front h. let i = innermost_is h.here.context o h.inside h.here.agrees in (then_ends mode.EndGap (mode.Content 0 false) o (ended i.first i.more o.events o.text) 62 (gap_closes o i.first i.more i.opens) (content_ends 0 false _)).reaches front h }
 
