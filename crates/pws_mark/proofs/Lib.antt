@@ -37,3 +37,4 @@ pub mod StandingDeclarations
 pub mod StandingRuns
 pub mod StandingEnds
 pub mod StandingDeclared
+pub mod StandingBegins

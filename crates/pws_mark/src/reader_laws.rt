@@ -1,6 +1,6 @@
 //! Laws of the reader.
 
-ghost use Rattle.pws_mark.specs.ReaderLaws.{DocumentsAreFollowed, PlacesCount, WritesSpell};
+ghost use Rattle.pws_mark.specs.ReaderLaws.{DocumentsAreFollowed, PlacesCount, RunsBegin, WritesSpell};
 ghost use Rattle.pws_mark.specs.TokenLaws.{CommentsAreTaken, EndsAreTaken, StartsAreTaken, HollowsAreTaken, PiecesAreTaken, SectionsAreTaken, HeadsAreTaken};
 
 /// The characters of a document spell it.
@@ -18,32 +18,32 @@ fn comments_are_taken()
     ensures { CommentsAreTaken }
 {}
 
-/// EndsAreTaken.
+/// An end tag is taken.
 fn ends_are_taken()
     ensures { EndsAreTaken }
 {}
 
-/// StartsAreTaken.
+/// A start tag is taken.
 fn starts_are_taken()
     ensures { StartsAreTaken }
 {}
 
-/// HollowsAreTaken.
+/// The tag of an element without content is taken.
 fn hollows_are_taken()
     ensures { HollowsAreTaken }
 {}
 
-/// PiecesAreTaken.
+/// A character, or a reference, in content is taken.
 fn pieces_are_taken()
     ensures { PiecesAreTaken }
 {}
 
-/// SectionsAreTaken.
+/// A section of character data is taken.
 fn sections_are_taken()
     ensures { SectionsAreTaken }
 {}
 
-/// HeadsAreTaken.
+/// The head of a document is taken.
 fn heads_are_taken()
     ensures { HeadsAreTaken }
 {}
@@ -53,7 +53,7 @@ fn documents_are_followed()
     ensures { DocumentsAreFollowed }
 {}
 
-/// A scratch law.
-fn scratch()
-    ensures { WritesSpell }
+/// What was read begins a document.
+fn runs_begin()
+    ensures { RunsBegin }
 {}
