@@ -51,3 +51,9 @@ pub mod StandingModes
 pub mod StandingSteps
 pub mod StandingTags
 pub mod StandingValues
+pub mod StandingHeads
+pub mod StandingDeclarations
+pub mod StandingRuns
+pub mod StandingEnds
+pub mod StandingDeclared
+pub mod StandingBegins

@@ -135,6 +135,9 @@ head_spelled d h = by d.mark
     by true = ap (λ z. 0xEF ∷ 0xBB ∷ 0xBF ∷ z) (declaration_spelled d.declaration h)
     by false = declaration_spelled d.declaration h
 
+pub prolog_spelled : (d : Document) → is_declaration d.declaration ≡ true → is_misc d.before ≡ true → encode_utf8_all (write_prolog d) ≡ spell_prolog d
+prolog_spelled d declaration before = both (write_head d) (write_content d.before) _ _ (head_spelled d declaration) (misc_spelled d.before before)
+
 pub document_spelled : (d : Document) → is_document d ≡ true → encode_utf8_all (write d) ≡ spell d
 document_spelled d lawful =
     let one = and_parts (is_declaration d.declaration) (is_misc d.before && ((is_root d.root && is_content d.root) && is_misc d.after)) lawful in

@@ -213,12 +213,12 @@ end_gap_stands o front at c z h step = by o.opens refl step
       ]
     ]
 
-has_split : (done todo : List ℕ) (c : ℕ) → has_at (done ++ todo) (length done) c ≡ true → (more : List ℕ) × (todo ≡ c ∷ more)
+pub has_split : (done todo : List ℕ) (c : ℕ) → has_at (done ++ todo) (length done) c ≡ true → (more : List ℕ) × (todo ≡ c ∷ more)
 has_split [] [] c h = absurd cc
 has_split [] (d ∷ more) c h = (more, ap (λ e. e ∷ more) (eqb-true d c h))
 has_split (d ∷ done) todo c h = has_split done todo c h
 
-none_left : (done todo : List ℕ) → length done ≡ length (done ++ todo) → todo ≡ []
+pub none_left : (done todo : List ℕ) → length done ≡ length (done ++ todo) → todo ≡ []
 none_left done [] e = refl
 none_left done (d ∷ todo) e = absurd (omega (arith, length-append done (d ∷ todo)))
 

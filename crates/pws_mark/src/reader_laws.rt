@@ -1,6 +1,6 @@
 //! Laws of the reader.
 
-ghost use Rattle.pws_mark.specs.ReaderLaws.{DocumentsAreFollowed, PlacesCount, WritesSpell};
+ghost use Rattle.pws_mark.specs.ReaderLaws.{DocumentsAreFollowed, PlacesCount, RunsBegin, WritesSpell};
 ghost use Rattle.pws_mark.specs.TokenLaws.{CommentsAreTaken, EndsAreTaken, StartsAreTaken, HollowsAreTaken, PiecesAreTaken, SectionsAreTaken, HeadsAreTaken};
 
 /// The characters of a document spell it.
@@ -51,4 +51,9 @@ fn heads_are_taken()
 /// The reader takes each document whole, notes its faults and builds what it means.
 fn documents_are_followed()
     ensures { DocumentsAreFollowed }
+{}
+
+/// What was read begins a document.
+fn runs_begin()
+    ensures { RunsBegin }
 {}
