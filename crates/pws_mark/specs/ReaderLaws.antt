@@ -23,7 +23,7 @@ use Rattle.pws_mark.specs.declared.modes.Mode.TheVariants as mode
 
 -- a document's characters spell it
 abbrev pub WritesSpell : Type 0
-WritesSpell = (d : Document) → IsTrue (is_document d) → (encode_utf8_all (write d) ≡ spell d) × (all_scalars (write d) ≡ true)
+WritesSpell = (d : Document) → IsTrue (is_document d) → encode_utf8_all (write d) ≡ spell d
 
 -- What events stand for, read from the right: the nodes of the open elements, the innermost first.
 abbrev pub read_event : Event → List Nodes → List Nodes
