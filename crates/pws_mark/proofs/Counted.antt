@@ -6,7 +6,7 @@ use Rattle.pws_mark.specs.Scan.{step, run, then_run, next, start}
 use Rattle.pws_mark.specs.States.{Outer, State}
 use Rattle.pws_mark.specs.declared.modes.Mode.{Mode}
 
-counts : (cs : List ℕ) (s t : State) → run s cs ≡ Some t → t.at ≡ s.at + length (encode_utf8_all cs)
+pub counts : (cs : List ℕ) (s t : State) → run s cs ≡ Some t → t.at ≡ s.at + length (encode_utf8_all cs)
 unfolding run
 counts [] s t h = let e : s ≡ t = cc in omega (arith, ap (λ z. z.at) e)
 counts (c ∷ cs) s t h = by (next s.mode s.outer s.at c) (λ u. counts cs u t) h

@@ -166,7 +166,7 @@ pub fits_none : (c : Content) → Fits 0 c
 fits_none c = record { last = λ e. absurd (omega arith); more = λ e. absurd (omega arith) }
 
 -- the test of a piece, what follows it
-piece_free : (n : ℕ) (piece : Piece) (rest : Content) → Fits n (Text piece rest) → (n == 2 && is_char 62 piece) ≡ false
+pub piece_free : (n : ℕ) (piece : Piece) (rest : Content) → Fits n (Text piece rest) → (n == 2 && is_char 62 piece) ≡ false
 piece_free n (Char c) rest fits = by (n == 2) (62 == c) (eqb-true n 2) refl
   where
     by : (s t : Bool) → (s ≡ true → n ≡ 2) → (62 == c) ≡ t → (s && t) ≡ false
@@ -189,7 +189,7 @@ piece_free n (Hexadecimal digits) rest fits = never (n == 2)
     never true = refl
     never false = refl
 
-fits_behind : (n : ℕ) (piece : Piece) (rest : Content) → Fits n (Text piece rest) → begins_with section_end (Text piece rest) ≡ false → Fits (brackets_behind n piece) rest
+pub fits_behind : (n : ℕ) (piece : Piece) (rest : Content) → Fits n (Text piece rest) → begins_with section_end (Text piece rest) ≡ false → Fits (brackets_behind n piece) rest
 unfolding section_end
 fits_behind n (Char c) rest fits none = by (93 == c) refl
   where

@@ -57,3 +57,8 @@ pub mod StandingRuns
 pub mod StandingEnds
 pub mod StandingDeclared
 pub mod StandingBegins
+pub mod Placed
+pub mod PlacedContent
+pub mod PlacedModes
+pub mod PlacedSpans
+pub mod PlacedTokens

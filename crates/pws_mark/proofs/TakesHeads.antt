@@ -304,7 +304,7 @@ fresh_first : (marked : Bool) (at c : ℕ) → is_white c ≡ true → (next (mo
 unfolding next
 fresh_first marked at c white = (rw white refl, rw white refl)
 
-fresh_opened : (at c : ℕ) → (c == 63) ≡ false → next (mode.HeadOpened at) outside (at + 1) c ≡ next (mode.Opened at) outside (at + 1) c
+pub fresh_opened : (at c : ℕ) → (c == 63) ≡ false → next (mode.HeadOpened at) outside (at + 1) c ≡ next (mode.Opened at) outside (at + 1) c
 unfolding next
 fresh_opened at c other = rw other refl
 
@@ -356,7 +356,7 @@ declaration_begins marked at = record { runs = ap (λ p. Some (in_head p (declar
     five : at + 1 + 1 + 1 + 1 + 1 ≡ at + 5
     five = omega arith
 
-whole_declaration : (marked : Bool) (at : ℕ) (d : Declaration) → is_declaration (Some d) ≡ true → Goes (state at (mode.Start marked) outside) (write_declaration (Some d)) (state (at + length (spell_declaration (Some d))) (mode.Content 0 false) outside) []
+pub whole_declaration : (marked : Bool) (at : ℕ) (d : Declaration) → is_declaration (Some d) ≡ true → Goes (state at (mode.Start marked) outside) (write_declaration (Some d)) (state (at + length (spell_declaration (Some d))) (mode.Content 0 false) outside) []
 whole_declaration marked at d lawful =
     let bytes = spell_pseudo (codes "version") d.version ++ (spell_optional (codes "encoding") d.encoding ++ (spell_optional (codes "standalone") d.standalone ++ (encode_utf8_all d.gap ++ codes "?>"))) in
     goes_at (state at (mode.Start marked) outside) (write_declaration (Some d)) (mode.Content 0 false) outside [] (at + 5 + length bytes) (at + length (spell_declaration (Some d)))

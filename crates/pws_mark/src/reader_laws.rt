@@ -1,6 +1,6 @@
 //! Laws of the reader.
 
-ghost use Rattle.pws_mark.specs.ReaderLaws.{DocumentsAreFollowed, PlacesCount, RunsBegin, WritesSpell};
+ghost use Rattle.pws_mark.specs.ReaderLaws.{DocumentsAreFollowed, PlacesCount, RunsArePlaced, RunsBegin, WritesSpell};
 ghost use Rattle.pws_mark.specs.TokenLaws.{CommentsAreTaken, EndsAreTaken, StartsAreTaken, HollowsAreTaken, PiecesAreTaken, SectionsAreTaken, HeadsAreTaken};
 
 /// The characters of a document spell it.
@@ -56,4 +56,9 @@ fn documents_are_followed()
 /// What was read begins a document.
 fn runs_begin()
     ensures { RunsBegin }
+{}
+
+/// Where the reader is, is where it stands in each document that begins so.
+fn runs_are_placed()
+    ensures { RunsArePlaced }
 {}
