@@ -60,7 +60,7 @@ end_name_goes x xs behind events text (c ∷ todo) done at name inner =
     let here : has_at x.name (length done) c ≡ true = rw name (has_behind done todo c) in
     let size : length (done ++ c ∷ []) ≡ length done + 1 = length-append done (c ∷ []) in
     let stepped : next (mode.EndName (length done)) o at c ≡ Some (mode.EndName (length (done ++ c ∷ [])), o) = rw here (ap (λ n. Some (mode.EndName n, o)) (sym size)) in
-    let found : finds (mode.EndName (length done)) o c ≡ [] = rw (not-true (c == 62) parts.0) refl in
+    let found : finds (mode.EndName (length done)) o c ≡ [] = rw here refl in
     goes_quietly (mode.EndName (length done)) (mode.EndName (length (done ++ c ∷ []))) (mode.EndName (length x.name)) o o o at c todo [] stepped found
     (end_name_goes x xs behind events text todo (done ++ c ∷ []) (at + length (encode_utf8 c)) (name ∙ sym (append_assoc done (c ∷ []) todo)) parts.1)
 
@@ -86,12 +86,12 @@ ends_behind_name x xs behind events text [] at white =
     let o = around x xs behind events text in
     let stepped : next (mode.EndName (length x.name)) o at 62 ≡ Some (mode.Content 0 false, ended x xs events text) = rw (has_none_behind x.name 62, eq-eqb (length x.name) (length x.name) refl) refl in
     goes_until (state at (mode.EndName (length x.name)) o) (62 ∷ []) (mode.Content 0 false) (ended x xs events text) (end_finds (x ∷ xs)) (at + 1) (at + (0 + 1)) (omega arith)
-    (goes_once (mode.EndName (length x.name)) (mode.Content 0 false) o (ended x xs events text) at 62 (end_finds (x ∷ xs)) stepped refl)
+    (goes_once (mode.EndName (length x.name)) (mode.Content 0 false) o (ended x xs events text) at 62 (end_finds (x ∷ xs)) stepped (rw (has_none_behind x.name 62) refl))
 ends_behind_name x xs behind events text (c ∷ gap) at white =
     let o = around x xs behind events text in
     let parts = and_parts (is_white c) (list_all is_white gap) white in
     let stepped : next (mode.EndName (length x.name)) o at c ≡ Some (mode.EndGap, o) = rw (has_none_behind x.name c, eq-eqb (length x.name) (length x.name) refl, parts.0) refl in
-    let found : finds (mode.EndName (length x.name)) o c ≡ [] = rw (white_ends_nothing c parts.0) refl in
+    let found : finds (mode.EndName (length x.name)) o c ≡ [] = rw (has_none_behind x.name c, white_ends_nothing c parts.0) refl in
     goes_until (state at (mode.EndName (length x.name)) o) (c ∷ (gap ++ 62 ∷ [])) (mode.Content 0 false) (ended x xs events text) (end_finds (x ∷ xs)) (at + length (encode_utf8 c) + (length (encode_utf8_all gap) + 1)) (at + (length (encode_utf8 c ++ encode_utf8_all gap) + 1))
     (omega (arith, length-append (encode_utf8 c) (encode_utf8_all gap)))
     (goes_on_to _ _ _ (c ∷ []) (gap ++ 62 ∷ []) [] (ending (at + length (encode_utf8 c) + (length (encode_utf8_all gap) + 1)) (end_finds (x ∷ xs)))

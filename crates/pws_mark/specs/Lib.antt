@@ -13,6 +13,7 @@ pub mod LawfulMeanings
 pub mod Least
 pub mod Meaning
 pub mod Noted
+pub mod Outcome
 pub mod Places
 pub mod ReaderLaws
 pub mod Reading

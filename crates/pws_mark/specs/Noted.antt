@@ -7,7 +7,7 @@ use Rattle.pws_tree.specs.declared.texts.Name.{Name}
 use Rattle.std.specs.Str.{bytes_eq}
 use Rattle.pws_mark.specs.Bindings.{Bindings, written_prefix, has_two_colons, is_bound, element_name, attribute_name, same_name, is_wrong_declaration}
 use Rattle.pws_mark.specs.Faults.{Fault, is_wrong_name, first_place, is_value_name}
-use Rattle.pws_mark.specs.Scan.{reference_step, step}
+use Rattle.pws_mark.specs.Scan.{reference_step, name_has, step}
 use Rattle.pws_mark.specs.States.{Open, Outer, State, bound_at, prefix_declared, read_bound, word_of}
 use Rattle.pws_mark.specs.Values.{Marked, letters}
 use Rattle.pws_mark.specs.declared.errors.MarkKind.{MarkKind}
@@ -85,7 +85,7 @@ finds (mode.InTag tag spaced) o c = if c == 62 then start_finds o tag else []
 finds (mode.Slash tag) o c = hollow_finds o tag
 finds (mode.TextReference at r) o c = reference_finds at (reference_step r c)
 finds (mode.ValueReference tag name v at r) o c = reference_finds at (reference_step r c)
-finds (mode.EndName n) o c = if c == 62 then end_finds o.opens else []
+finds (mode.EndName n) o c = if name_has o.opens n c then [] else if c == 62 then end_finds o.opens else []
 finds mode.EndGap o c = if c == 62 then end_finds o.opens else []
 finds _ o c = []
 

@@ -100,7 +100,6 @@ PlacesCount = (front : List ℕ) (s : State) → run start front ≡ Some s → 
 -- these bytes begin a character that the reader takes
 pub record BeginsTaken (s : State) (part : List ℕ) : Type 0 where
   pub char : ℕ
-  pub scalar : all_scalars (char ∷ []) ≡ true
   pub takes : is_some (step s char) ≡ true
   pub rest : List ℕ
   pub bytes : encode_utf8 char ≡ part ++ rest

@@ -320,6 +320,15 @@ abbrev pub either : {A : Type 0} → Option A → (A → Next) → Next
 either None more = None
 either (Some x) more = more x
 
+-- the character at a place of the innermost element's name, and the name's end
+abbrev pub name_has : List Open → ℕ → ℕ → Bool
+name_has [] n c = false
+name_has (x ∷ xs) n c = has_at x.name n c
+
+abbrev pub name_ends : List Open → ℕ → Bool
+name_ends [] n = false
+name_ends (x ∷ xs) n = n == length x.name
+
 -- in an end tag, of which so many characters of the name were read
 abbrev pub end_name_step : Outer → List Open → ℕ → ℕ → Next
 end_name_step o [] n c = None

@@ -1,5 +1,6 @@
 //! Laws of the reader.
 
+ghost use Rattle.pws_mark.specs.Outcome.{EndsBuild, EndsMean, EndsTell, LeastTells, StopsTell};
 ghost use Rattle.pws_mark.specs.ReaderLaws.{DocumentsAreFollowed, PlacesCount, RunsArePlaced, RunsBegin, WritesSpell};
 ghost use Rattle.pws_mark.specs.TokenLaws.{CommentsAreTaken, EndsAreTaken, StartsAreTaken, HollowsAreTaken, PiecesAreTaken, SectionsAreTaken, HeadsAreTaken};
 
@@ -61,4 +62,29 @@ fn runs_begin()
 /// Where the reader is, is where it stands in each document that begins so.
 fn runs_are_placed()
     ensures { RunsArePlaced }
+{}
+
+/// A text that the reader takes whole stands for the tree that it builds.
+fn ends_mean()
+    ensures { EndsMean }
+{}
+
+/// What the reader builds of a text without faults is a lawful tree.
+fn ends_build()
+    ensures { EndsBuild }
+{}
+
+/// The least of all that refuses a text is what is told.
+fn least_tells()
+    ensures { LeastTells }
+{}
+
+/// What refuses a text that the reader takes to its end.
+fn ends_tell()
+    ensures { EndsTell }
+{}
+
+/// What refuses a text in which the reader stops.
+fn stops_tell()
+    ensures { StopsTell }
 {}
