@@ -20,9 +20,6 @@ use Rattle.pws_mark.specs.declared.modes.Mode.{Mode}
 use Rattle.pws_mark.specs.declared.modes.Mode.TheVariants as mode
 
 -- what is refused, and its place
-abbrev pub Find : Type 0
-Find = MarkKind × ℕ
-
 abbrev pub if_found : Bool → MarkKind → ℕ → List (MarkKind × ℕ)
 if_found wrong k at = if wrong then (k, at) ∷ [] else []
 

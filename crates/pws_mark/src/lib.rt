@@ -5,11 +5,15 @@
 //! - `writing` writes the canonical text of a tree.
 //! - `laws` has what holds of canonical texts, and of what texts stand for.
 //!
-//! Reading isn't built yet: `errors` has what it will answer, and only its definitions are here, in specs/. There
+//! Reading isn't built whole yet. `errors` has what it will answer, and its definitions are here, in specs/. There
 //! `Documents` has the documents and their spelling, `Digits`, `Tokens`, `Grammar` and `Beginnings` tell which are in the
 //! grammar, `Bindings`, `Values` and `Meaning` give the tree that a document stands for, `Faults` what is refused in one,
 //! `Places` and `Causes` what refuses a text, `Reading` what reading has to answer, and `Canonical` the text that is
 //! written.
+//!
+//! What it will stand on is here: a reader that takes one character after another, as definitions (`Scan`, `Noted`,
+//! `States`), parts of its code, and the private laws of `reader_laws`: that reader takes each document whole, what it
+//! read begins a document, and what refuses a text is what it finds in it.
 //!
 //! The one contract so far: `write_element` gives the canonical text, `canonical`, of the tree. By the laws it stands
 //! for that tree, and no other tree has it. Nothing stands on this layer yet; the layer of envelopes will.
