@@ -89,6 +89,9 @@ fn cases(rt: HostRuntime) -> Result<(), Fail> {
     let second = check_table(&rt, alloc, SECOND)?;
     let third = check_table(&rt, alloc, THIRD)?;
     let fourth = check_table(&rt, alloc, FOURTH)?;
-    assert_eq!(rt; (first, second, third, fourth), (101, 28, 54, 59));
+    assert_eq!(rt; first, 101);
+    assert_eq!(rt; second, 28);
+    assert_eq!(rt; third, 54);
+    assert_eq!(rt; fourth, 59);
     Ok(())
 }
