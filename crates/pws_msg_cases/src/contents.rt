@@ -11,19 +11,40 @@ use pws_msg::packets::Packet;
 use pws_msg::places::WantedPlace;
 use pws_msg::requests::{OwnRequest, ReplyNote};
 use sha2::{Digest as _, Sha256};
+use std::alloc::Global;
+use std::process::Abort;
 use std::test::Fail;
+
+/// The content has these bytes.
+fn check_content(
+    rt: &impl Abort,
+    alloc: Global,
+    content: &Content,
+    wanted: &[u8],
+) -> Result<(), Fail> {
+    let bytes = content_bytes(alloc, content)?;
+    assert!(rt; bytes.as_slice() == wanted);
+    Ok(())
+}
 
 /// FETCH of place 1.
 #[test]
 fn a_content_and_its_digest(rt: HostRuntime) -> Result<(), Fail> {
     let alloc = rt.alloc();
     let fetch = Content::Fetch(WantedPlace::new(1));
-    let bytes = content_bytes(alloc, &fetch)?;
-    assert!(rt; bytes.as_slice() == b"\x0e\x00\x00\x00\x01".as_slice());
-    assert!(rt; content_digest(alloc, &fetch)? == Sha256::digest(&bytes));
-    let give = content_bytes(alloc, &Content::Give(Event::Null))?;
-    assert!(rt; give.as_slice() == b"\x11\x00".as_slice());
+    let wanted = b"\x0e\x00\x00\x00\x01";
+    check_content(&rt, alloc, &fetch, wanted)?;
+    let digest = content_digest(alloc, &fetch)?;
+    assert!(rt; digest == Sha256::digest(wanted));
     Ok(())
+}
+
+/// GIVE of the Null event.
+#[test]
+fn a_content_with_an_event(rt: HostRuntime) -> Result<(), Fail> {
+    let alloc = rt.alloc();
+    let give = Content::Give(Event::Null);
+    check_content(&rt, alloc, &give, b"\x11\x00")
 }
 
 /// A packet that is made, and not read: a REPLY with a body.
@@ -56,8 +77,6 @@ fn a_request_is_made(rt: HostRuntime) -> Result<(), Fail> {
     let alloc = rt.alloc();
     let body = Bytes::from_slice(alloc, b"hi")?;
     let request = OwnRequest::new(1, 1, body);
-    let bytes = content_bytes(alloc, &Content::Request(request))?;
     let wanted = bytes_of(alloc, "010000000100000001000000026869")?;
-    assert!(rt; bytes.as_slice() == wanted.as_slice());
-    Ok(())
+    check_content(&rt, alloc, &Content::Request(request), &wanted)
 }
