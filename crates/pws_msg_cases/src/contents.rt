@@ -7,55 +7,76 @@ use pws_base::shapes::ReplicaId;
 use pws_event::events::Event;
 use pws_msg::contents::{Content, content_bytes, content_digest};
 use pws_msg::packet_writing::write_packet;
-use pws_msg::packets::{Packet, Voucher};
+use pws_msg::packets::Packet;
 use pws_msg::places::WantedPlace;
 use pws_msg::requests::{OwnRequest, ReplyNote};
 use sha2::{Digest as _, Sha256};
+use std::alloc::Global;
+use std::process::Abort;
 use std::test::Fail;
+
+/// The content has these bytes.
+fn check_content(
+    rt: &impl Abort,
+    alloc: Global,
+    content: &Content,
+    wanted: &[u8],
+) -> Result<(), Fail> {
+    let bytes = content_bytes(alloc, content)?;
+    assert!(rt; bytes.as_slice() == wanted);
+    Ok(())
+}
 
 /// FETCH of place 1.
 #[test]
 fn a_content_and_its_digest(rt: HostRuntime) -> Result<(), Fail> {
     let alloc = rt.alloc();
     let fetch = Content::Fetch(WantedPlace::new(1));
-    let bytes = content_bytes(alloc, &fetch)?;
-    assert!(rt; bytes.as_slice() == b"\x0e\x00\x00\x00\x01".as_slice());
-    assert!(rt; content_digest(alloc, &fetch)? == Sha256::digest(&bytes));
-    let give = content_bytes(alloc, &Content::Give(Event::Null))?;
-    assert!(rt; give.as_slice() == b"\x11\x00".as_slice());
+    let wanted = b"\x0e\x00\x00\x00\x01";
+    check_content(&rt, alloc, &fetch, wanted)?;
+    let digest = content_digest(alloc, &fetch)?;
+    assert!(rt; digest == Sha256::digest(wanted));
     Ok(())
 }
 
-/// A packet that is made, and not read: a REPLY with a body and a voucher.
+/// GIVE of the Null event.
+#[test]
+fn a_content_with_an_event(rt: HostRuntime) -> Result<(), Fail> {
+    let alloc = rt.alloc();
+    let give = Content::Give(Event::Null);
+    check_content(&rt, alloc, &give, b"\x11\x00")
+}
+
+/// A packet that is made, and not read: a REPLY with a body.
 #[test]
 fn a_packet_is_made(rt: HostRuntime) -> Result<(), Fail> {
     let alloc = rt.alloc();
-    let (zero, one) = (
-        ReplicaId { group: 1, index: 0 },
-        ReplicaId { group: 1, index: 1 },
-    );
-    let digest = Sha256::digest(b"hi");
-    let voucher = Voucher::new(
-        one,
-        Content::Reply(ReplyNote::new(0, 1, digest)),
+    let sender = ReplicaId { group: 1, index: 0 };
+    let body = Bytes::from_slice(alloc, b"hi")?;
+    let reply = Content::Reply(ReplyNote::new(0, 1, Sha256::digest(b"hi")));
+    let packet = Packet::new(
+        sender,
+        0,
+        reply,
+        Sequence::new(alloc),
+        Some(body),
         Sequence::new(alloc),
     );
-    let mut vouchers = Sequence::new(alloc);
-    vouchers.push(voucher)?;
-    let body = Bytes::from_slice(alloc, b"hi")?;
-    let reply = Content::Reply(ReplyNote::new(0, 1, digest));
-    let packet = Packet::new(zero, 0, reply, Sequence::new(alloc), Some(body), vouchers);
-    let hash = "8f434346648f6b96df89dda901c5176b10a6d83961dd3c1ac88b59b2dc327aa4";
     let bytes = write_packet(alloc, &packet)?;
-    let content = format!(in alloc; "020000000001{hash}")?;
-    let wanted = format!(in alloc;
-        "50575301010000+00000026+{content}+00+01+00000002+6869+01+0101+00000026+{content}+00"
-    )?;
-    assert!(rt; bytes.as_slice() == bytes_of(alloc, wanted.as_str())?.as_slice());
+    let wanted =
+        "50575301010000+00000026+020000000001+8f434346648f6b96df89dda901c5176b10a6d83961dd3c1ac88b59b2dc327aa4+00+01+00000002+6869+00";
+    assert!(rt; bytes.as_slice() == bytes_of(alloc, wanted)?.as_slice());
     let parts = packet.into_parts();
-    assert_eq!(rt; parts.vouchers.len(), 1);
-    let request = OwnRequest::new(1, 1, Bytes::from_slice(alloc, b"hi")?);
-    let bytes = content_bytes(alloc, &Content::Request(request))?;
-    assert!(rt; bytes.as_slice() == bytes_of(alloc, "010000000100000001000000026869")?.as_slice());
+    assert!(rt; parts.vouchers.is_empty());
     Ok(())
+}
+
+/// A REQ that is made, and not read.
+#[test]
+fn a_request_is_made(rt: HostRuntime) -> Result<(), Fail> {
+    let alloc = rt.alloc();
+    let body = Bytes::from_slice(alloc, b"hi")?;
+    let request = OwnRequest::new(1, 1, body);
+    let wanted = bytes_of(alloc, "010000000100000001000000026869")?;
+    check_content(&rt, alloc, &Content::Request(request), &wanted)
 }

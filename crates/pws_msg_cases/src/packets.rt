@@ -3,12 +3,52 @@
 use crate::bytes::bytes_of;
 use crate::packet_table::{FIRST, FOURTH, SECOND, THIRD};
 use pws_base::lists::ExactCopy;
-use pws_msg::errors::PacketReadError;
+use pws_msg::errors::{PacketError, PacketReadError};
 use pws_msg::packet_reading::read_packet;
 use pws_msg::packet_writing::write_packet;
+use pws_msg::packets::Packet;
 use std::alloc::Global;
 use std::process::Abort;
 use std::test::Fail;
+
+/// Writing the packet gives the bytes.
+fn check_written(
+    rt: &impl Abort,
+    alloc: Global,
+    name: &str,
+    bytes: &[u8],
+    packet: &Packet,
+) -> Result<(), Fail> {
+    let written = write_packet(alloc, packet)?;
+    assert!(rt; written.as_slice() == bytes, "{name}");
+    Ok(())
+}
+
+/// Writing the packet, or a copy of it, gives the bytes.
+fn check_read(
+    rt: &impl Abort,
+    alloc: Global,
+    name: &str,
+    bytes: &[u8],
+    packet: Packet,
+) -> Result<(), Fail> {
+    check_written(rt, alloc, name, bytes, &packet)?;
+    let copy = packet.copy(alloc)?;
+    check_written(rt, alloc, name, bytes, &copy)
+}
+
+/// The refusal is this one.
+fn check_refused(
+    rt: &impl Abort,
+    alloc: Global,
+    name: &str,
+    answer: &str,
+    error: PacketError,
+) -> Result<(), Fail> {
+    let told = format!(in alloc; "{:?} at {}", error.kind, error.at)?;
+    assert!(rt; told.as_str() == answer, "{name}: {told}");
+    Ok(())
+}
 
 /// Reading gives this answer, and writing what was read, or a copy of it, gives the bytes.
 fn check(
@@ -21,18 +61,14 @@ fn check(
     match read_packet(alloc, bytes) {
         Ok(packet) => {
             assert!(rt; answer == "ok", "{name}");
-            let written = write_packet(alloc, &packet)?;
-            assert!(rt; written.as_slice() == bytes, "{name}");
-            let copied = write_packet(alloc, &packet.copy(alloc)?)?;
-            assert!(rt; copied.as_slice() == bytes, "{name}");
+            check_read(rt, alloc, name, bytes, packet)
         }
-        Err(PacketReadError::Refused(error)) => {
-            let told = format!(in alloc; "{:?} at {}", error.kind, error.at)?;
-            assert!(rt; told.as_str() == answer, "{name}: {told}");
+        Err(PacketReadError::Refused(error)) => check_refused(rt, alloc, name, answer, error),
+        Err(PacketReadError::Memory) => {
+            assert!(rt; false, "{name}: out of memory");
+            Ok(())
         }
-        Err(PacketReadError::Memory) => assert!(rt; false, "{name}: out of memory"),
     }
-    Ok(())
 }
 
 /// Each of the first bytes of the packet `whole`, from so many to so many, has this answer.
@@ -89,6 +125,9 @@ fn cases(rt: HostRuntime) -> Result<(), Fail> {
     let second = check_table(&rt, alloc, SECOND)?;
     let third = check_table(&rt, alloc, THIRD)?;
     let fourth = check_table(&rt, alloc, FOURTH)?;
-    assert_eq!(rt; (first, second, third, fourth), (101, 28, 54, 59));
+    assert_eq!(rt; first, 101);
+    assert_eq!(rt; second, 28);
+    assert_eq!(rt; third, 54);
+    assert_eq!(rt; fourth, 59);
     Ok(())
 }
