@@ -116,7 +116,7 @@ element_built tag inner gap at faultless =
     let inner_faultless : faults_in y.bound 1 begin inner ≡ [] = ap (λ n. faults_in n 1 begin inner) bound ∙ two.0 in
     let inside = nodes_inside m tag inner in
     let contents : read_on (flushed within.events within.text) (read_on (qualified_event z.bound z.word ++ event.Close ∷ []) (NoNode ∷ [])) ≡ read_on begun.events (inside ∷ NoNode ∷ []) =
-      element_contents outside m tag inner at other_end NoNode [] bound three.0 (λ word. events_same inner begin false begun y [] (started_opens outside tag at) word inner_faultless (NoNode ∷ [])) in
+    element_contents outside m tag inner at other_end NoNode [] bound three.0 (λ word. events_same inner begin false begun y [] (started_opens outside tag at) word inner_faultless (NoNode ∷ [])) in
     ap (λ es. read_on es (NoNode ∷ [])) (closed_events within z [] within_opens)
     ∙ (read_on_append (flushed within.events within.text) (qualified_event z.bound z.word ++ event.Close ∷ []) (NoNode ∷ [])
     ∙ (contents ∙ (opened_on outside m tag at inside NoNode [] bound ∙ ap (λ n. n ∷ []) (no_text (ElementThen (name_of m tag.name) (attrs_of m tag) inside NoNode)))))
@@ -130,22 +130,22 @@ hollow_root tag at lawful =
     let noted_there = early ++ ending end (hollow_finds outside (tag_read at tag)) in
     let value = if_wrong (is_value_name (element_name m tag.name)) kind.Syntax at end in
     let found : ending end (hollow_finds outside (tag_read at tag)) ≡ ending end (tag_finds m (tag_read at tag)) ++ value =
-      ap (λ n. ending end (tag_finds n (tag_read at tag) ++ if_found (is_value_name (element_name n tag.name)) kind.Syntax at)) (bound_same outermost tag at)
-      ∙ (ending_append end (tag_finds m (tag_read at tag)) (if_found (is_value_name (element_name m tag.name)) kind.Syntax at) ∙ ap (λ z. ending end (tag_finds m (tag_read at tag)) ++ z) (ending_found (is_value_name (element_name m tag.name)) kind.Syntax at end)) in
+    ap (λ n. ending end (tag_finds n (tag_read at tag) ++ if_found (is_value_name (element_name n tag.name)) kind.Syntax at)) (bound_same outermost tag at)
+    ∙ (ending_append end (tag_finds m (tag_read at tag)) (if_found (is_value_name (element_name m tag.name)) kind.Syntax at) ∙ ap (λ z. ending end (tag_finds m (tag_read at tag)) ++ z) (ending_found (is_value_name (element_name m tag.name)) kind.Syntax at end)) in
     let place : end ≡ at + (open_length tag + 1) = omega arith in
     record {
       last = around;
       fs = noted_there;
       goes = goes_at (state at (mode.Content 0 false) outside) (60 ∷ (write_tag tag ++ 47 ∷ 62 ∷ [])) (mode.Content 0 false) around noted_there end (at + length (spell_content (Hollow tag Nothing)))
-        (omega (arith, length-append (spell_tag tag) (47 ∷ 62 ∷ [])))
-        (goes_on_to _ _ _ (60 ∷ []) (write_tag tag ++ 47 ∷ 62 ∷ []) [] noted_there (root_opens at) (hollows_are_taken outside at tag before_root lawful));
+          (omega (arith, length-append (spell_tag tag) (47 ∷ 62 ∷ [])))
+          (goes_on_to _ _ _ (60 ∷ []) (write_tag tag ++ 47 ∷ 62 ∷ []) [] noted_there (root_opens at) (hollows_are_taken outside at tag before_root lawful));
       shut = ap (λ o. o.opens) (hollow_around tag at);
       behind = ap (λ o. o.behind) (hollow_around tag at);
       notes =
-        subst (λ e. SameFaults noted_there (tag_faults m 0 at e tag ++ (element_faults m at e e tag Nothing ++ []))) place
-        (then_same _ _ _ (same_by _ _ (ap (λ z. early ++ z) found ∙ sym (append_assoc early (ending end (tag_finds m (tag_read at tag))) value)))
-        (both_same _ (tag_faults m 0 at end tag) _ _ (tag_same m 0 at end tag)
-        (same_by _ _ (hollow_noted m at end tag ∙ sym (append-nil (element_faults m at end end tag Nothing))))));
+          subst (λ e. SameFaults noted_there (tag_faults m 0 at e tag ++ (element_faults m at e e tag Nothing ++ []))) place
+          (then_same _ _ _ (same_by _ _ (ap (λ z. early ++ z) found ∙ sym (append_assoc early (ending end (tag_finds m (tag_read at tag))) value)))
+          (both_same _ (tag_faults m 0 at end tag) _ _ (tag_same m 0 at end tag)
+          (same_by _ _ (hollow_noted m at end tag ∙ sym (append-nil (element_faults m at end end tag Nothing))))));
       builds = λ faultless. ap (λ o. read_on o.events (NoNode ∷ [])) (hollow_around tag at) ∙ ap (λ z. ElementThen (name_of m tag.name) z NoNode NoNode ∷ []) (attrs_same m tag at);
     }
 
@@ -171,29 +171,29 @@ element_root tag inner gap at lawful =
     let size = length (spell_content (Element tag inner gap Nothing)) in
     let last = 60 ∷ 47 ∷ (tag.name ++ (gap ++ 62 ∷ [])) in
     let ends : Goes (state (close_at at tag inner) (mode.Content (marks_behind inner 0) (return_behind inner false)) within) last (state end (mode.Content 0 false) (closed within)) hs =
-      subst (λ w. Goes (state (close_at at tag inner) (mode.Content (marks_behind inner 0) (return_behind inner false)) within) last (state end (mode.Content 0 false) w) hs) shut_is
-      (ends_are_taken within z [] (close_at at tag inner) (marks_behind inner 0) (return_behind inner false) gap within_opens name.0 three.0) in
+    subst (λ w. Goes (state (close_at at tag inner) (mode.Content (marks_behind inner 0) (return_behind inner false)) within) last (state end (mode.Content 0 false) w) hs) shut_is
+    (ends_are_taken within z [] (close_at at tag inner) (marks_behind inner 0) (return_behind inner false) gap within_opens name.0 three.0) in
     let chars : (60 ∷ (write_tag tag ++ 62 ∷ [])) ++ (write_content inner ++ last) ≡ write_content (Element tag inner gap Nothing) =
-      ap (λ w. (60 ∷ (write_tag tag ++ 62 ∷ [])) ++ (write_content inner ++ w)) (sym (append-nil last)) ∙ element_back tag gap (write_content inner) [] in
+    ap (λ w. (60 ∷ (write_tag tag ++ 62 ∷ [])) ++ (write_content inner ++ w)) (sym (append-nil last)) ∙ element_back tag gap (write_content inner) [] in
     let long : end ≡ at + size = omega (arith, element_size tag gap (spell_content inner) [] at) in
     let ends_noted : hs ≡ element_faults m at begin end tag inner =
-      ap (λ os. ending end (end_finds os)) within_opens ∙ (end_noted y.bound tag.name at begin end inner ∙ ap (λ n. if is_value_name (element_name n tag.name) then content_faults_of n at end (name_within begin inner) else []) bound) in
+    ap (λ os. ending end (end_finds os)) within_opens ∙ (end_noted y.bound tag.name at begin end inner ∙ ap (λ n. if is_value_name (element_name n tag.name) then content_faults_of n at end (name_within begin inner) else []) bound) in
     let place : end ≡ begin + (length (spell_content inner) + close_length tag gap) = omega arith in
     record {
       last = closed within;
       fs = fs ++ (gs ++ hs);
       goes = subst (λ cs. Goes (state at (mode.Content 0 false) outside) cs (state (at + size) (mode.Content 0 false) (closed within)) (fs ++ (gs ++ hs))) chars
-        (goes_at (state at (mode.Content 0 false) outside) ((60 ∷ (write_tag tag ++ 62 ∷ [])) ++ (write_content inner ++ last)) (mode.Content 0 false) (closed within) (fs ++ (gs ++ hs)) end (at + size) long
-        (goes_on_to _ _ _ (60 ∷ (write_tag tag ++ 62 ∷ [])) (write_content inner ++ last) fs (gs ++ hs)
-        (goes_on_to _ _ _ (60 ∷ []) (write_tag tag ++ 62 ∷ []) [] fs (root_opens at) (starts_are_taken outside at tag before_root one.0))
-        (goes_on_to _ _ _ (write_content inner) last gs hs (content_goes inner begin 0 false begun y [] (started_opens outside tag at) two.0 (fits_none inner)) ends)));
+          (goes_at (state at (mode.Content 0 false) outside) ((60 ∷ (write_tag tag ++ 62 ∷ [])) ++ (write_content inner ++ last)) (mode.Content 0 false) (closed within) (fs ++ (gs ++ hs)) end (at + size) long
+          (goes_on_to _ _ _ (60 ∷ (write_tag tag ++ 62 ∷ [])) (write_content inner ++ last) fs (gs ++ hs)
+          (goes_on_to _ _ _ (60 ∷ []) (write_tag tag ++ 62 ∷ []) [] fs (root_opens at) (starts_are_taken outside at tag before_root one.0))
+          (goes_on_to _ _ _ (write_content inner) last gs hs (content_goes inner begin 0 false begun y [] (started_opens outside tag at) two.0 (fits_none inner)) ends)));
       shut = closed_opens within z [] within_opens;
       behind = closed_behind within z within_opens;
       notes =
-        subst (λ e. SameFaults (fs ++ (gs ++ hs)) (tag_faults m 0 at begin tag ++ (faults_in m 1 begin inner ++ (element_faults m at begin e tag inner ++ [])))) place
-        (both_same _ (tag_faults m 0 at begin tag) _ _ (then_same _ _ _ (same_by _ _ (ap (λ n. early_faults 0 at tag ++ ending begin (tag_finds n (tag_read at tag))) bound)) (tag_same m 0 at begin tag))
-        (both_same _ (faults_in m 1 begin inner) _ _ (subst (λ n. SameFaults gs (faults_in n 1 begin inner)) bound (faults_same inner begin false begun y [] (started_opens outside tag at)))
-        (same_by _ _ (ends_noted ∙ sym (append-nil (element_faults m at begin end tag inner))))));
+          subst (λ e. SameFaults (fs ++ (gs ++ hs)) (tag_faults m 0 at begin tag ++ (faults_in m 1 begin inner ++ (element_faults m at begin e tag inner ++ [])))) place
+          (both_same _ (tag_faults m 0 at begin tag) _ _ (then_same _ _ _ (same_by _ _ (ap (λ n. early_faults 0 at tag ++ ending begin (tag_finds n (tag_read at tag))) bound)) (tag_same m 0 at begin tag))
+          (both_same _ (faults_in m 1 begin inner) _ _ (subst (λ n. SameFaults gs (faults_in n 1 begin inner)) bound (faults_same inner begin false begun y [] (started_opens outside tag at)))
+          (same_by _ _ (ends_noted ∙ sym (append-nil (element_faults m at begin end tag inner))))));
       builds = λ faultless. element_built tag inner gap at faultless;
     }
 
@@ -292,8 +292,8 @@ documents_are_followed d lawful =
     let end = root_at + length (spell_content d.root) in
     let last = state (end + length (spell_content d.after)) (mode.Content 0 false) root.last in
     let whole_run : Goes (state begin (mode.Content 0 false) outside) cs last (root.fs ++ []) =
-      goes_on_to (state begin (mode.Content 0 false) outside) (state root_at (mode.Content 0 false) outside) last (write_content d.before) (write_content d.root ++ write_content d.after) [] (root.fs ++ []) (misc_goes d.before begin outside out_before two.0)
-      (goes_on_to (state root_at (mode.Content 0 false) outside) (state end (mode.Content 0 false) root.last) last (write_content d.root) (write_content d.after) root.fs [] root.goes (misc_goes d.after end root.last (out_behind root.last root.shut root.behind) three.1)) in
+    goes_on_to (state begin (mode.Content 0 false) outside) (state root_at (mode.Content 0 false) outside) last (write_content d.before) (write_content d.root ++ write_content d.after) [] (root.fs ++ []) (misc_goes d.before begin outside out_before two.0)
+    (goes_on_to (state root_at (mode.Content 0 false) outside) (state end (mode.Content 0 false) root.last) last (write_content d.root) (write_content d.after) root.fs [] root.goes (misc_goes d.after end root.last (out_behind root.last root.shut root.behind) three.1)) in
     let written : write d ≡ write_head d ++ cs = append_assoc (write_head d) (write_content d.before) (write_content d.root ++ write_content d.after) in
     let prolog : root_at ≡ length (spell_prolog d) = sym (length-append (spell_head d) (spell_content d.before)) in
     let noted_all : noted start (write d) ≡ root.fs = ap (noted start) written ∙ (head.notes ∙ (whole_run.notes ∙ append-nil root.fs)) in

@@ -304,8 +304,8 @@ content_goes (Element tag inner gap rest) at n ret o x xs opens lawful fits =
     let size = length (spell_content (Element tag inner gap rest)) in
     let last = 60 ∷ 47 ∷ (tag.name ++ (gap ++ 62 ∷ [])) in
     let ends : Goes (state (close_at at tag inner) (mode.Content (marks_behind inner 0) (return_behind inner false)) within) last (state end (mode.Content 0 false) (closed within)) hs =
-      subst (λ w. Goes (state (close_at at tag inner) (mode.Content (marks_behind inner 0) (return_behind inner false)) within) last (state end (mode.Content 0 false) w) hs) shut_is
-      (ends_are_taken within z (spoiled o.opens) (close_at at tag inner) (marks_behind inner 0) (return_behind inner false) gap within_opens name.0 three.0) in
+    subst (λ w. Goes (state (close_at at tag inner) (mode.Content (marks_behind inner 0) (return_behind inner false)) within) last (state end (mode.Content 0 false) w) hs) shut_is
+    (ends_are_taken within z (spoiled o.opens) (close_at at tag inner) (marks_behind inner 0) (return_behind inner false) gap within_opens name.0 three.0) in
     subst (λ cs. Goes (state at (mode.Content n ret) o) cs (state (at + size) (mode.Content (marks_behind rest 0) (return_behind rest false)) (outer_behind rest end false (closed within))) (fs ++ (gs ++ (hs ++ rest_faults)))) (element_back tag gap (write_content inner) (write_content rest))
     (goes_on_to _ _ _ (60 ∷ (write_tag tag ++ 62 ∷ [])) (write_content inner ++ (last ++ write_content rest)) fs (gs ++ (hs ++ rest_faults))
     (goes_on_to _ _ _ (60 ∷ []) (write_tag tag ++ 62 ∷ []) [] fs (tag_opens o x xs at n ret opens) (starts_are_taken o at tag (not_behind o x xs opens) one.0))

@@ -205,10 +205,10 @@ is_one_of_letters cs =
 one_letters : (w : Marked) → is_one_name w ≡ is_one_of_letters (letters w)
 one_letters w =
     let rest : list_all (λ c. is_white c.0) (drop (length (first_word w)) (behind_white w)) ≡ list_all is_white (drop (length (word_of_letters (letters w))) (behind_white_letters (letters w))) =
-      white_all_letters (drop (length (first_word w)) (behind_white w))
-      ∙ (ap (list_all is_white) (drop_letters (length (first_word w)) (behind_white w))
-      ∙ (ap (λ n. list_all is_white (drop n (letters (behind_white w)))) (size_letters (first_word w) ∙ ap length (word_letters w))
-      ∙ ap (λ z. list_all is_white (drop (length (word_of_letters (letters w))) z)) (white_letters w))) in
+    white_all_letters (drop (length (first_word w)) (behind_white w))
+    ∙ (ap (list_all is_white) (drop_letters (length (first_word w)) (behind_white w))
+    ∙ (ap (λ n. list_all is_white (drop n (letters (behind_white w)))) (size_letters (first_word w) ∙ ap length (word_letters w))
+    ∙ ap (λ z. list_all is_white (drop (length (word_of_letters (letters w))) z)) (white_letters w))) in
     ap (λ z. is_name z && (not (has_two_colons z) && list_all (λ c. is_white c.0) (drop (length (first_word w)) (behind_white w)))) (word_letters w)
     ∙ ap (λ z. is_name (word_of_letters (letters w)) && (not (has_two_colons (word_of_letters (letters w))) && z)) rest
 
@@ -457,7 +457,7 @@ events_same (Element tag inner gap rest) at ret o x xs opens plain faultless sta
     let inner_faultless : faults_in y.bound (length (y ∷ spoiled o.opens)) begin inner ≡ [] = ap (λ l. faults_in y.bound l begin inner) depth ∙ (ap (λ n. faults_in n (level + 1) begin inner) bound ∙ two.0) in
     let inside = nodes_inside m tag inner in
     let contents : read_on (flushed within.events within.text) (read_on (qualified_event z.bound z.word ++ event.Close ∷ []) (nodes ∷ stack)) ≡ read_on begun.events (inside ∷ nodes ∷ stack) =
-      element_contents o m tag inner at other_end nodes stack bound three.0 (λ word. events_same inner begin false begun y (spoiled o.opens) (started_opens o tag at) word inner_faultless (nodes ∷ stack)) in
+    element_contents o m tag inner at other_end nodes stack bound three.0 (λ word. events_same inner begin false begun y (spoiled o.opens) (started_opens o tag at) word inner_faultless (nodes ∷ stack)) in
     events_same rest end false (closed within) (with_word x (spoiled_word x.word)) xs shut_opens (ap spoiled_word plain) rest_faultless stack
     ∙ (ap (λ t. read_on (closed within).events (with_text t nodes ∷ stack)) (closed_text within z (spoiled o.opens) within_opens)
     ∙ (ap (λ n. read_on (closed within).events (n ∷ stack)) (no_text nodes)

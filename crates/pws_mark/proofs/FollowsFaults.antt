@@ -65,8 +65,8 @@ attributes_same m end (a ∷ more) at seen reads names =
     let wrong : is_wrong_read m r (prefix_declared a.name) ≡ is_wrong_attribute m a (declared_prefix a) = wrong_same m a name_at (declared_prefix a) in
     let twice : list_any (are_read_twice m r) reads ≡ list_any (are_twice m a) seen = read_as_names m r reads ∙ (ap (list_any (twice_names m a.name)) names ∙ sym (seen_as_names m a seen)) in
     let noted : ending end (if_found (is_wrong_read m r (prefix_declared a.name)) kind.Prefix name_at ++ (if_found (list_any (are_read_twice m r) reads) kind.Twice name_at ++ finds)) ≡ ps ++ (ts ++ es) =
-      ending_both end name_at (is_wrong_read m r (prefix_declared a.name)) (list_any (are_read_twice m r) reads) finds
-      ∙ (ap (λ b. if_wrong b kind.Prefix name_at end ++ (if_wrong (list_any (are_read_twice m r) reads) kind.Twice name_at end ++ es)) wrong ∙ ap (λ b. ps ++ (if_wrong b kind.Twice name_at end ++ es)) twice) in
+    ending_both end name_at (is_wrong_read m r (prefix_declared a.name)) (list_any (are_read_twice m r) reads) finds
+    ∙ (ap (λ b. if_wrong b kind.Prefix name_at end ++ (if_wrong (list_any (are_read_twice m r) reads) kind.Twice name_at end ++ es)) wrong ∙ ap (λ b. ps ++ (if_wrong b kind.Twice name_at end ++ es)) twice) in
     then_same _ ((vs ++ ws) ++ (ps ++ (ts ++ es))) _ (same_by _ _ (ap (λ z. (vs ++ ws) ++ z) noted))
     (then_same _ (ps ++ (ts ++ (vs ++ (ws ++ es)))) _ (same_shuffled vs ws ps ts es)
     (both_same ps ps _ _ (same_faults ps) (both_same ts ts _ _ (same_faults ts) (both_same vs vs _ _ (same_faults vs)
@@ -196,10 +196,10 @@ faults_same (Hollow tag rest) at ret o x xs opens =
     let early = early_faults level at tag in
     let deep : early_faults (length o.opens) at tag ≡ early = ap (λ os. early_faults (length os) at tag) opens in
     let found : ending end (hollow_finds o (tag_read at tag)) ≡ ending end (tag_finds m (tag_read at tag)) ++ value =
-      ap (λ n. ending end (tag_finds n (tag_read at tag) ++ if_found (is_value_name (element_name n tag.name)) kind.Syntax at)) (bound_around o x xs tag at opens)
-      ∙ (ending_append end (tag_finds m (tag_read at tag)) (if_found (is_value_name (element_name m tag.name)) kind.Syntax at) ∙ ap (λ z. ending end (tag_finds m (tag_read at tag)) ++ z) (ending_found (is_value_name (element_name m tag.name)) kind.Syntax at end)) in
+    ap (λ n. ending end (tag_finds n (tag_read at tag) ++ if_found (is_value_name (element_name n tag.name)) kind.Syntax at)) (bound_around o x xs tag at opens)
+    ∙ (ending_append end (tag_finds m (tag_read at tag)) (if_found (is_value_name (element_name m tag.name)) kind.Syntax at) ∙ ap (λ z. ending end (tag_finds m (tag_read at tag)) ++ z) (ending_found (is_value_name (element_name m tag.name)) kind.Syntax at end)) in
     let parted : (early_faults (length o.opens) at tag ++ ending end (hollow_finds o (tag_read at tag))) ++ rest_found ≡ (early ++ ending end (tag_finds m (tag_read at tag))) ++ (value ++ rest_found) =
-      ap (λ z. (z ++ ending end (hollow_finds o (tag_read at tag))) ++ rest_found) deep ∙ (ap (λ z. (early ++ z) ++ rest_found) found ∙ regroup early (ending end (tag_finds m (tag_read at tag))) value rest_found) in
+    ap (λ z. (z ++ ending end (hollow_finds o (tag_read at tag))) ++ rest_found) deep ∙ (ap (λ z. (early ++ z) ++ rest_found) found ∙ regroup early (ending end (tag_finds m (tag_read at tag))) value rest_found) in
     let place : end ≡ at + (open_length tag + 1) = omega arith in
     subst (λ e. SameFaults ((early_faults (length o.opens) at tag ++ ending end (hollow_finds o (tag_read at tag))) ++ rest_found) (tag_faults m level at e tag ++ (element_faults m at e e tag Nothing ++ faults_in x.bound level e rest))) place
     (then_same _ _ _ (same_by _ _ parted)
@@ -220,13 +220,13 @@ faults_same (Element tag inner gap rest) at ret o x xs opens =
     let bound : y.bound ≡ m = bound_around o x xs tag at opens in
     let early = early_faults level at tag in
     let starts : early_faults (length o.opens) at tag ++ ending begin (start_finds o (tag_read at tag)) ≡ early ++ ending begin (tag_finds m (tag_read at tag)) =
-      ap (λ os. early_faults (length os) at tag ++ ending begin (start_finds o (tag_read at tag))) opens ∙ ap (λ n. early ++ ending begin (tag_finds n (tag_read at tag))) bound in
+    ap (λ os. early_faults (length os) at tag ++ ending begin (start_finds o (tag_read at tag))) opens ∙ ap (λ n. early ++ ending begin (tag_finds n (tag_read at tag))) bound in
     let depth : length (y ∷ spoiled o.opens) ≡ level + 1 = omega (arith, ap length (spoiled_opens o.opens x xs opens)) in
     let inner_same : SameFaults (found_in inner begin false begun) (faults_in m (level + 1) begin inner) =
-      subst (λ n. SameFaults (found_in inner begin false begun) (faults_in n (level + 1) begin inner)) bound
-      (subst (λ l. SameFaults (found_in inner begin false begun) (faults_in y.bound l begin inner)) depth (faults_same inner begin false begun y (spoiled o.opens) (started_opens o tag at))) in
+    subst (λ n. SameFaults (found_in inner begin false begun) (faults_in n (level + 1) begin inner)) bound
+    (subst (λ l. SameFaults (found_in inner begin false begun) (faults_in y.bound l begin inner)) depth (faults_same inner begin false begun y (spoiled o.opens) (started_opens o tag at))) in
     let ends : ending end (end_finds within.opens) ≡ element_faults m at begin end tag inner =
-      ap (λ os. ending end (end_finds os)) within_opens ∙ (end_noted y.bound tag.name at begin end inner ∙ ap (λ n. if is_value_name (element_name n tag.name) then content_faults_of n at end (name_within begin inner) else []) bound) in
+    ap (λ os. ending end (end_finds os)) within_opens ∙ (end_noted y.bound tag.name at begin end inner ∙ ap (λ n. if is_value_name (element_name n tag.name) then content_faults_of n at end (name_within begin inner) else []) bound) in
     let place : end ≡ begin + (length (spell_content inner) + close_length tag gap) = omega arith in
     subst (λ e. SameFaults (found_in (Element tag inner gap rest) at ret o) (tag_faults m level at begin tag ++ (faults_in m (level + 1) begin inner ++ (element_faults m at begin e tag inner ++ faults_in x.bound level e rest)))) place
     (both_same _ (tag_faults m level at begin tag) _ _ (then_same _ _ _ (same_by _ _ starts) (tag_same m level at begin tag))

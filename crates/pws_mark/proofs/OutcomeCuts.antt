@@ -110,6 +110,6 @@ goes_further front rest xs ys s u runs stuck there e = by (two_splits front rest
       runs = sym (sym runs ∙ (ap (run start) l.front_is ∙ (run_append start xs l.more ∙ ap (λ z. then_run z (λ t. run t l.more)) there)));
     }
     by (inr m) =
-      let none : step s m.char ≡ None = stuck m.char (m.more ++ ys) m.rest_is in
-      let whole : run start xs ≡ then_run (step s m.char) (λ t. run t m.more) = ap (run start) m.xs_is ∙ (run_append start front (m.char ∷ m.more) ∙ ap (λ z. then_run z (λ t. run t (m.char ∷ m.more))) runs) in
-      absurd (let bad : Some u ≡ then_run None (λ t. run t m.more) = sym there ∙ (whole ∙ ap (λ z. then_run z (λ t. run t m.more)) none) in cc)
+        let none : step s m.char ≡ None = stuck m.char (m.more ++ ys) m.rest_is in
+        let whole : run start xs ≡ then_run (step s m.char) (λ t. run t m.more) = ap (run start) m.xs_is ∙ (run_append start front (m.char ∷ m.more) ∙ ap (λ z. then_run z (λ t. run t (m.char ∷ m.more))) runs) in
+        absurd (let bad : Some u ≡ then_run None (λ t. run t m.more) = sym there ∙ (whole ∙ ap (λ z. then_run z (λ t. run t m.more)) none) in cc)

@@ -133,13 +133,13 @@ opened_stands begin are_placed front rest s before runs b one stand =
   where
     undeclared : (b : IsBehind (60 ∷ []) front s.outer false) → is_declared (encode_utf8_all (b.xs ++ 60 ∷ rest)) b.before.at ≡ true → ⊥
     undeclared b h =
-      let d = declares (encode_utf8_all (b.xs ++ 60 ∷ rest)) b.before.at h in
-      let begun = head_begun b.xs (head_declared b.xs (60 ∷ rest) b.before.at (sym (places_count b.xs b.before b.there)) d.head) in
-      let same : Some begun.state ≡ Some b.before = sym begun.runs ∙ b.there in
-      let here : begun.state ≡ b.before = cc in
-      let yes : is_start b.before.mode ≡ true = subst (λ (z : State). is_start z.mode ≡ true) here begun.starts in
-      let bad : true ≡ false = sym yes ∙ b.starts_is in
-      absurd cc
+        let d = declares (encode_utf8_all (b.xs ++ 60 ∷ rest)) b.before.at h in
+        let begun = head_begun b.xs (head_declared b.xs (60 ∷ rest) b.before.at (sym (places_count b.xs b.before b.there)) d.head) in
+        let same : Some begun.state ≡ Some b.before = sym begun.runs ∙ b.there in
+        let here : begun.state ≡ b.before = cc in
+        let yes : is_start b.before.mode ≡ true = subst (λ (z : State). is_start z.mode ≡ true) here begun.starts in
+        let bad : true ≡ false = sym yes ∙ b.starts_is in
+        absurd cc
 
 -- in the word the reader takes the next letter, and behind it white space
 word_on : (n : ℕ) (rest : List ℕ) (s : State) (c : ℕ) (more : List ℕ) → n ≤ 3 → s.mode ≡ mode.Declaring (declaring.Word n) → IsStuck s rest → is_white c ≡ true
@@ -190,11 +190,11 @@ word_stands begin are_placed front rest s before n runs stuck is k size_is stand
   where
     undeclared : (u : State) → run start k.xs ≡ Some u → is_declared (encode_utf8_all (k.xs ++ ((60 ∷ 63 ∷ take n (codes "xml")) ++ rest))) u.at ≡ true → ⊥
     undeclared u there h =
-      let d = declares (encode_utf8_all (k.xs ++ ((60 ∷ 63 ∷ take n (codes "xml")) ++ rest))) u.at h in
-      let small = k.small in
-      let behind : drop u.at (encode_utf8_all (k.xs ++ ((60 ∷ 63 ∷ take n (codes "xml")) ++ rest))) ≡ encode_utf8_all ((60 ∷ 63 ∷ take n (codes "xml")) ++ rest) =
-          ap (drop u.at) (encodes-append k.xs ((60 ∷ 63 ∷ take n (codes "xml")) ++ rest)) ∙ drop_at (encode_utf8_all k.xs) (encode_utf8_all ((60 ∷ 63 ∷ take n (codes "xml")) ++ rest)) u.at (sym (places_count k.xs u there)) in
-      word_on n rest s d.char d.more small is stuck d.white (sym (mark_bytes n rest small) ∙ (sym behind ∙ d.are))
+        let d = declares (encode_utf8_all (k.xs ++ ((60 ∷ 63 ∷ take n (codes "xml")) ++ rest))) u.at h in
+        let small = k.small in
+        let behind : drop u.at (encode_utf8_all (k.xs ++ ((60 ∷ 63 ∷ take n (codes "xml")) ++ rest))) ≡ encode_utf8_all ((60 ∷ 63 ∷ take n (codes "xml")) ++ rest) =
+        ap (drop u.at) (encodes-append k.xs ((60 ∷ 63 ∷ take n (codes "xml")) ++ rest)) ∙ drop_at (encode_utf8_all k.xs) (encode_utf8_all ((60 ∷ 63 ∷ take n (codes "xml")) ++ rest)) u.at (sym (places_count k.xs u there)) in
+        word_on n rest s d.char d.more small is stuck d.white (sym (mark_bytes n rest small) ∙ (sym behind ∙ d.are))
 
 question_is : (m : Mode) (o : Outer) (front : List ℕ) (before : ℕ) → question_before m ≡ Some before → Known m o front
     → ((before ≡ 1) × IsBehind (60 ∷ []) front o false) ⊎ ((n : ℕ) × (before ≡ n + 2) × (m ≡ mode.Declaring (declaring.Word n)) × IsInWord front n)
@@ -207,8 +207,8 @@ instructions_stand begin are_placed known front rest s runs stuck = (here, λ be
   where
     here : is_within s.mode ≡ false → is_at (encode_utf8_all (front ++ rest)) s.at (codes "<?") ≡ true → HasInstruction (encode_utf8_all (front ++ rest)) s.at
     here within stand =
-      let w = instruction_bytes (drop s.at (encode_utf8_all (front ++ rest))) stand in
-      instruction_given begin are_placed front rest s runs within stand (unless (is_declared (encode_utf8_all (front ++ rest)) s.at) (not_declared front rest s runs stuck (63 ∷ w.0) w.1))
+        let w = instruction_bytes (drop s.at (encode_utf8_all (front ++ rest))) stand in
+        instruction_given begin are_placed front rest s runs within stand (unless (is_declared (encode_utf8_all (front ++ rest)) s.at) (not_declared front rest s runs stuck (63 ∷ w.0) w.1))
 
     by : (before : ℕ) → ((before ≡ 1) × IsBehind (60 ∷ []) front s.outer false) ⊎ ((n : ℕ) × (before ≡ n + 2) × (s.mode ≡ mode.Declaring (declaring.Word n)) × IsInWord front n)
         → is_at (encode_utf8_all (front ++ rest)) (s.at - before) (codes "<?") ≡ true → HasInstruction (encode_utf8_all (front ++ rest)) (s.at - before)

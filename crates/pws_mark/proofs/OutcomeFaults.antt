@@ -227,7 +227,7 @@ unfolding found
 fault_found bytes front s k runs comes kd at h =
     let size : h.size ≡ s.at + k = one_longest bytes h.size (s.at + k) h.longest comes.longest in
     let spelled : spell h.document ≡ encode_utf8_all front ++ (comes.part ++ h.completes.0) =
-        h.completes.1.spelled ∙ (ap (λ n. take n bytes ++ h.completes.0) size ∙ (ap (λ z. z ++ h.completes.0) comes.starts ∙ append_assoc (encode_utf8_all front) comes.part h.completes.0)) in
+    h.completes.1.spelled ∙ (ap (λ n. take n bytes ++ h.completes.0) size ∙ (ap (λ z. z ++ h.completes.0) comes.starts ∙ append_assoc (encode_utf8_all front) comes.part h.completes.0)) in
     let reach = document_reaches h.document front (comes.part ++ h.completes.0) h.completes.1.lawful spelled in
     let followed = documents_are_followed h.document h.completes.1.lawful in
     let among : Contains (noted start front ++ noted s reach.more) h.fault = subst (λ fs. Contains fs h.fault) (noted_split h.document front reach.more s reach.written runs) ((followed.notes h.fault).1 h.among) in

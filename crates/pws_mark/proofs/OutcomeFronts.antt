@@ -104,7 +104,7 @@ no_longer : (bytes : List ℕ) (m n : ℕ) → IsLongest bytes m → IsLongest b
 no_longer bytes m n a b less =
     let within = b.within in
     let one : take n bytes ≡ take (suc m) bytes ++ drop (suc m) (take n bytes) =
-        sym (take-append-drop (suc m) (take n bytes)) ∙ ap (λ z. z ++ drop (suc m) (take n bytes)) (sym (take-append-le (suc m) (take n bytes) (drop n bytes) (omega (arith, length-take-le n bytes within))) ∙ ap (take (suc m)) (take-append-drop n bytes)) in
+    sym (take-append-drop (suc m) (take n bytes)) ∙ ap (λ z. z ++ drop (suc m) (take n bytes)) (sym (take-append-le (suc m) (take n bytes) (drop n bytes) (omega (arith, length-take-le n bytes within))) ∙ ap (take (suc m)) (take-append-drop n bytes)) in
     a.next (omega arith) (front_viable (take (suc m) bytes) (drop (suc m) (take n bytes)) (subst IsViable one b.viable))
 
 pub one_longest : (bytes : List ℕ) (m n : ℕ) → IsLongest bytes m → IsLongest bytes n → m ≡ n

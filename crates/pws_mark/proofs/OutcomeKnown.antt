@@ -66,29 +66,49 @@ came_known front c s k (mode.Start true) p h = absurd (let e = h.2 in cc)
 came_known front c s k (mode.Start false) p h =
     let none : front ≡ [] = subst (λ m. Known m s.outer front) h.0 k.known in (λ i. none i ++ h.1 i ∷ [])
 came_known front c s k (mode.HeadOpened at) p h = record {
-    xs = front; before = s; front_is = ap (λ z. front ++ z ∷ []) h.1; there = k.there; early = start_early s.mode h.0; outer_is = h.2; starts_is = h.0; head = λ e. start_known s.mode s.outer front h.0 k.known }
+  xs = front;
+  before = s;
+  front_is = ap (λ z. front ++ z ∷ []) h.1;
+  there = k.there;
+  early = start_early s.mode h.0;
+  outer_is = h.2;
+  starts_is = h.0;
+  head = λ e. start_known s.mode s.outer front h.0 k.known;
+}
 came_known front c s k (mode.Opened at) p h =
     let both = content_early s.mode h.0 in
     record { xs = front; before = s; front_is = ap (λ z. front ++ z ∷ []) h.1; there = k.there; early = both.0; outer_is = h.2; starts_is = both.1; head = λ e. absurd cc }
 came_known front c s k mode.Bang p h =
-    let b = opened_known s.mode s.outer front h.0 k.known in
-    (b.0, record {
-      xs = b.1.xs; before = b.1.before;
-      front_is = (λ i. b.1.front_is i ++ h.1 i ∷ []) ∙ append_assoc b.1.xs (60 ∷ []) (33 ∷ []);
-      there = b.1.there; early = b.1.early; outer_is = h.2 ∙ b.1.outer_is; starts_is = b.1.starts_is; head = b.1.head })
+    let b = opened_known s.mode s.outer front h.0 k.known in (
+      b.0,
+      record {
+        xs = b.1.xs;
+        before = b.1.before;
+        front_is = (λ i. b.1.front_is i ++ h.1 i ∷ []) ∙ append_assoc b.1.xs (60 ∷ []) (33 ∷ []);
+        there = b.1.there;
+        early = b.1.early;
+        outer_is = h.2 ∙ b.1.outer_is;
+        starts_is = b.1.starts_is;
+        head = b.1.head;
+      },
+    )
 came_known front c s k (mode.Declaring (declaring.Word n)) p (inl h) =
     let b = head_known s.mode s.outer front h.0 k.known in
     record {
-      xs = b.xs; head = b.head refl;
+      xs = b.xs;
+      head = b.head refl;
       front_is = (λ i. b.front_is i ++ h.1 i ∷ []) ∙ (append_assoc b.xs (60 ∷ []) (63 ∷ []) ∙ ap (λ z. b.xs ++ 60 ∷ 63 ∷ take z (codes "xml")) (sym h.2));
-      small = omega (arith, h.2) }
+      small = omega (arith, h.2);
+    }
 came_known front c s k (mode.Declaring (declaring.Word n)) p (inr h) =
     let b : IsInWord front h.0 = subst (λ m. Known m s.outer front) h.1 k.known in
     let letter = letter_next h.0 c h.3 in
     record {
-      xs = b.xs; head = b.head;
+      xs = b.xs;
+      head = b.head;
       front_is = ap (λ z. z ++ c ∷ []) b.front_is ∙ (append_assoc b.xs (60 ∷ 63 ∷ take h.0 (codes "xml")) (c ∷ []) ∙ (ap (λ z. b.xs ++ 60 ∷ 63 ∷ z) letter.0 ∙ ap (λ z. b.xs ++ 60 ∷ 63 ∷ take z (codes "xml")) (sym h.2)));
-      small = omega (arith, h.2, letter.1) }
+      small = omega (arith, h.2, letter.1);
+    }
 came_known front c s k _ p h = tt
 
 keeps_step : (front : List ℕ) (c : ℕ) (s t : State) → Keeps front s → step s c ≡ Some t → Keeps (front ++ c ∷ []) t

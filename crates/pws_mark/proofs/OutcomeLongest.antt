@@ -52,8 +52,8 @@ part_viable begin front s part runs b = by (step s b.char) refl b.takes
     by : (o : Option State) → step s b.char ≡ o → is_some o ≡ true → IsViable (encode_utf8_all front ++ part)
     by None is h = absurd cc
     by (Some t) is h =
-      let v = run_viable begin (front ++ b.char ∷ []) t (run_one front s b.char runs ∙ is) in
-      front_viable (encode_utf8_all front ++ part) b.rest (subst IsViable (encodes-append front (b.char ∷ []) ∙ (ap (λ z. encode_utf8_all front ++ z) (append-nil (encode_utf8 b.char) ∙ b.bytes) ∙ sym (append_assoc (encode_utf8_all front) part b.rest))) v)
+        let v = run_viable begin (front ++ b.char ∷ []) t (run_one front s b.char runs ∙ is) in
+        front_viable (encode_utf8_all front ++ part) b.rest (subst IsViable (encodes-append front (b.char ∷ []) ∙ (ap (λ z. encode_utf8_all front ++ z) (append-nil (encode_utf8 b.char) ∙ b.bytes) ∙ sym (append_assoc (encode_utf8_all front) part b.rest))) v)
 
 stops_viable : RunsBegin → (front : List ℕ) (s : State) (c k : ℕ) → run start front ≡ Some s → (k ≡ 0) ⊎ BeginsTaken s (take k (encode_utf8 c)) → IsViable (encode_utf8_all front ++ take k (encode_utf8 c))
 stops_viable begin front s c k runs (inl none) = subst (λ n. IsViable (encode_utf8_all front ++ take n (encode_utf8 c))) (sym none) (subst IsViable (sym (append-nil (encode_utf8_all front))) (run_viable begin front s runs))
@@ -73,7 +73,7 @@ begins_taken s c j (z ∷ zs) r some within onward e =
     let long = reaches c z j (encode_utf8_all zs) r within e in
     let n : length (take j (encode_utf8 c)) ≡ j = length-take-le j (encode_utf8 c) within in
     let same : take j (encode_utf8 z) ≡ take j (encode_utf8 c) =
-        sym (take-append-le j (encode_utf8 z) (encode_utf8_all zs) long) ∙ (ap (take j) e ∙ (ap (λ m. take m (take j (encode_utf8 c) ++ r)) (sym n) ∙ take-append_seam (take j (encode_utf8 c)) r)) in
+    sym (take-append-le j (encode_utf8 z) (encode_utf8_all zs) long) ∙ (ap (take j) e ∙ (ap (λ m. take m (take j (encode_utf8 c) ++ r)) (sym n) ∙ take-append_seam (take j (encode_utf8 c)) r)) in
     record {
       char = z;
       takes = first_taken s z zs onward;

@@ -25,8 +25,8 @@ stepped s c t h = by (next s.mode s.outer s.at c) refl h
     by : (n : Option (Mode × Outer)) → next s.mode s.outer s.at c ≡ n → option_map (λ m. record { at = s.at + length (encode_utf8 c); mode = m.0; outer = m.1 }) n ≡ Some t → Stepped s c t
     by None is g = absurd cc
     by (Some m) is g =
-      let same : ◌≡◌ {A = State} (record { at = s.at + length (encode_utf8 c); mode = m.0; outer = m.1 }) t = cc in
-      record { next_is = is ∙ ap (λ (z : State). Some (z.mode, z.outer)) same; at_is = sym (ap (λ (z : State). z.at) same) }
+        let same : ◌≡◌ {A = State} (record { at = s.at + length (encode_utf8 c); mode = m.0; outer = m.1 }) t = cc in
+        record { next_is = is ∙ ap (λ (z : State). Some (z.mode, z.outer)) same; at_is = sym (ap (λ (z : State). z.at) same) }
 
 -- the first step of a run
 pub record First (s : State) (c : ℕ) (cs : List ℕ) (t : State) : Type 0 where

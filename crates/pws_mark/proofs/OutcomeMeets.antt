@@ -84,8 +84,8 @@ doctype_found are_placed front rest s at scalars runs stuck h =
     by : (m : Meets h.document front rest s at 60 (33 ∷ 68 ∷ (doctype_bytes (drop at (encode_utf8_all (front ++ rest))) h.stands).0)) → is_early m.before ≡ true → (m.more ≡ []) ⊎ IsBehindBang m.before s
         → ((is_early s ≡ true) × (s.at ≡ at) × (rest ≢ [])) ⊎ ((is_early s ≡ true) × (is_bang s.mode ≡ true) × (s.at ≡ at + 2))
     by m early (inl none) =
-      let same = run_nothing m.before s (ap (run m.before) (sym none) ∙ m.runs) in
-      inl (ap is_early (sym same) ∙ early, ap (λ (z : State). z.at) (sym same) ∙ m.at_is, λ nothing. absurd (let e = m.met in let f : m.more ++ rest ≡ [] = (λ i. none i ++ nothing i) in cc))
+        let same = run_nothing m.before s (ap (run m.before) (sym none) ∙ m.runs) in
+        inl (ap is_early (sym same) ∙ early, ap (λ (z : State). z.at) (sym same) ∙ m.at_is, λ nothing. absurd (let e = m.met in let f : m.more ++ rest ≡ [] = (λ i. none i ++ nothing i) in cc))
     by m early (inr w) = inr (w.early, w.bang, w.at_is ∙ ap (λ z. z + 2) m.at_is)
 
 pub early_apart : (m : Mode) → is_early_in m ≡ true → is_within m ≡ false

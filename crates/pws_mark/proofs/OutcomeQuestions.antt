@@ -160,10 +160,10 @@ instruction_met (a ∷ b ∷ ws) u s rest ys opens runs stuck e =
 
     by : (v w : State) → a ≡ 60 → b ≡ 63 → Opens u v → step v 63 ≡ Some w → w.at ≡ u.at + 2 → run w ws ≡ Some s → (a ∷ b ∷ ws ≡ []) ⊎ (IsBehindQuestion u s ⊎ IsDeclared u (a ∷ b ∷ ws))
     by v w first_is second_is (inl h) next_there at more =
-      let given = (stepped v 63 w next_there).next_is in
-      let known = head_question v.mode v.outer v.at u.at h.1 in
-      let same : ◌≡◌ {A = Mode × Outer} (mode.Declaring (declaring.Word 0), v.outer) (w.mode, w.outer) = cc in
-      word v w first_is second_is h.0 at (word_met ws w s (sym (ap (λ (z : Mode × Outer). z.0) same)) more)
+        let given = (stepped v 63 w next_there).next_is in
+        let known = head_question v.mode v.outer v.at u.at h.1 in
+        let same : ◌≡◌ {A = Mode × Outer} (mode.Declaring (declaring.Word 0), v.outer) (w.mode, w.outer) = cc in
+        word v w first_is second_is h.0 at (word_met ws w s (sym (ap (λ (z : Mode × Outer). z.0) same)) more)
     by v w first_is second_is (inr h) next_there at more = absurd (no_step v w 63 next_there (opened_question v.mode v.outer v.at u.at h))
 
 -- a declaration
@@ -189,11 +189,11 @@ instruction_found are_placed open_marks heads front rest s at scalars runs stuck
     by : (m : Meets h.document front rest s at 60 (63 ∷ (instruction_bytes (drop at (encode_utf8_all (front ++ rest))) h.stands).0)) → is_within m.before.mode ≡ false → (m.more ≡ []) ⊎ (IsBehindQuestion m.before s ⊎ IsDeclared m.before m.more)
         → ((is_within s.mode ≡ false) × (s.at ≡ at) × (rest ≢ [])) ⊎ ((before : ℕ) × (question_before s.mode ≡ Some before) × (s.at ≡ at + before))
     by m inside (inl none) =
-      let same = run_nothing m.before s (ap (run m.before) (sym none) ∙ m.runs) in
-      inl (ap (λ (z : State). is_within z.mode) (sym same) ∙ inside, ap (λ (z : State). z.at) (sym same) ∙ m.at_is, λ nothing. absurd (let e = m.met in let f : m.more ++ rest ≡ [] = (λ i. none i ++ nothing i) in cc))
+        let same = run_nothing m.before s (ap (run m.before) (sym none) ∙ m.runs) in
+        inl (ap (λ (z : State). is_within z.mode) (sym same) ∙ inside, ap (λ (z : State). z.at) (sym same) ∙ m.at_is, λ nothing. absurd (let e = m.met in let f : m.more ++ rest ≡ [] = (λ i. none i ++ nothing i) in cc))
     by m inside (inr (inl w)) = inr (w.before, w.mode_is, w.at_is ∙ ap (λ z. z + w.before) m.at_is)
     by m inside (inr (inr w)) =
-      let size : length (encode_utf8_all m.xs) ≡ at = sym (places_count m.xs m.before m.there) ∙ m.at_is in
-      let chars : front ++ rest ≡ m.xs ++ 60 ∷ 63 ∷ 120 ∷ 109 ∷ 108 ∷ w.beyond.char ∷ (w.beyond.more ++ rest) = m.chars ∙ ap (λ z. m.xs ++ z) (sym m.met ∙ ap (λ z. z ++ rest) w.beyond.are) in
-      let yes : is_declared (encode_utf8_all (front ++ rest)) at ≡ true = subst (λ zs. is_declared (encode_utf8_all zs) at ≡ true) (sym chars) (subst (λ n. is_declared (encode_utf8_all (m.xs ++ 60 ∷ 63 ∷ 120 ∷ 109 ∷ 108 ∷ w.beyond.char ∷ (w.beyond.more ++ rest))) n ≡ true) size (declared_there m.xs (w.beyond.more ++ rest) (heads m.xs m.before m.there w.starts) w.beyond.char w.beyond.white)) in
-      absurd (let not_so = h.undeclared in let bad : true ≡ false = sym yes ∙ not_so in cc)
+        let size : length (encode_utf8_all m.xs) ≡ at = sym (places_count m.xs m.before m.there) ∙ m.at_is in
+        let chars : front ++ rest ≡ m.xs ++ 60 ∷ 63 ∷ 120 ∷ 109 ∷ 108 ∷ w.beyond.char ∷ (w.beyond.more ++ rest) = m.chars ∙ ap (λ z. m.xs ++ z) (sym m.met ∙ ap (λ z. z ++ rest) w.beyond.are) in
+        let yes : is_declared (encode_utf8_all (front ++ rest)) at ≡ true = subst (λ zs. is_declared (encode_utf8_all zs) at ≡ true) (sym chars) (subst (λ n. is_declared (encode_utf8_all (m.xs ++ 60 ∷ 63 ∷ 120 ∷ 109 ∷ 108 ∷ w.beyond.char ∷ (w.beyond.more ++ rest))) n ≡ true) size (declared_there m.xs (w.beyond.more ++ rest) (heads m.xs m.before m.there w.starts) w.beyond.char w.beyond.white)) in
+        absurd (let not_so = h.undeclared in let bad : true ≡ false = sym yes ∙ not_so in cc)

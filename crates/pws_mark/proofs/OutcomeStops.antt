@@ -154,12 +154,12 @@ doctype_told are_placed front rest s at scalars runs stuck h = by (doctype_found
   where
     by : ((is_early s ≡ true) × (s.at ≡ at) × (rest ≢ [])) ⊎ ((is_early s ≡ true) × (is_bang s.mode ≡ true) × (s.at ≡ at + 2)) → Contains (stop_finds s (encode_utf8_all (front ++ rest))) (kind.Doctype, at)
     by (inl w) =
-      subst (λ n. Contains (stop_finds s (encode_utf8_all (front ++ rest))) (kind.Doctype, n)) w.1
-      (in_one s (encode_utf8_all (front ++ rest)) (and_from (is_early s) (is_at (encode_utf8_all (front ++ rest)) s.at (codes "<!DOCTYPE")) w.0 (subst (λ n. is_at (encode_utf8_all (front ++ rest)) n (codes "<!DOCTYPE") ≡ true) (sym w.1) h.stands)))
+        subst (λ n. Contains (stop_finds s (encode_utf8_all (front ++ rest))) (kind.Doctype, n)) w.1
+        (in_one s (encode_utf8_all (front ++ rest)) (and_from (is_early s) (is_at (encode_utf8_all (front ++ rest)) s.at (codes "<!DOCTYPE")) w.0 (subst (λ n. is_at (encode_utf8_all (front ++ rest)) n (codes "<!DOCTYPE") ≡ true) (sym w.1) h.stands)))
     by (inr w) =
-      let place : s.at - 2 ≡ at = omega (arith, w.2) in
-      subst (λ n. Contains (stop_finds s (encode_utf8_all (front ++ rest))) (kind.Doctype, n)) place
-      (in_two s (encode_utf8_all (front ++ rest)) (and_from (is_early s) (is_bang s.mode && is_at (encode_utf8_all (front ++ rest)) (s.at - 2) (codes "<!DOCTYPE")) w.0 (and_from (is_bang s.mode) (is_at (encode_utf8_all (front ++ rest)) (s.at - 2) (codes "<!DOCTYPE")) w.1 (subst (λ n. is_at (encode_utf8_all (front ++ rest)) n (codes "<!DOCTYPE") ≡ true) (sym place) h.stands))))
+        let place : s.at - 2 ≡ at = omega (arith, w.2) in
+        subst (λ n. Contains (stop_finds s (encode_utf8_all (front ++ rest))) (kind.Doctype, n)) place
+        (in_two s (encode_utf8_all (front ++ rest)) (and_from (is_early s) (is_bang s.mode && is_at (encode_utf8_all (front ++ rest)) (s.at - 2) (codes "<!DOCTYPE")) w.0 (and_from (is_bang s.mode) (is_at (encode_utf8_all (front ++ rest)) (s.at - 2) (codes "<!DOCTYPE")) w.1 (subst (λ n. is_at (encode_utf8_all (front ++ rest)) n (codes "<!DOCTYPE") ≡ true) (sym place) h.stands))))
 
 instruction_told : RunsArePlaced → MarksOpen → HeadsBegin → (front rest : List ℕ) (s : State) (at : ℕ) → all_scalars (front ++ rest) ≡ true → run start front ≡ Some s → IsStuck s rest → HasInstruction (encode_utf8_all (front ++ rest)) at
     → Contains (stop_finds s (encode_utf8_all (front ++ rest))) (kind.Instruction, at)
@@ -167,12 +167,12 @@ instruction_told are_placed open_marks heads front rest s at scalars runs stuck 
   where
     by : ((is_within s.mode ≡ false) × (s.at ≡ at) × (rest ≢ [])) ⊎ ((before : ℕ) × (question_before s.mode ≡ Some before) × (s.at ≡ at + before)) → Contains (stop_finds s (encode_utf8_all (front ++ rest))) (kind.Instruction, at)
     by (inl w) =
-      subst (λ n. Contains (stop_finds s (encode_utf8_all (front ++ rest))) (kind.Instruction, n)) w.1
-      (in_three s (encode_utf8_all (front ++ rest)) (and_from (not (is_within s.mode)) (is_at (encode_utf8_all (front ++ rest)) s.at (codes "<?")) (ap not w.0) (subst (λ n. is_at (encode_utf8_all (front ++ rest)) n (codes "<?") ≡ true) (sym w.1) h.stands)))
+        subst (λ n. Contains (stop_finds s (encode_utf8_all (front ++ rest))) (kind.Instruction, n)) w.1
+        (in_three s (encode_utf8_all (front ++ rest)) (and_from (not (is_within s.mode)) (is_at (encode_utf8_all (front ++ rest)) s.at (codes "<?")) (ap not w.0) (subst (λ n. is_at (encode_utf8_all (front ++ rest)) n (codes "<?") ≡ true) (sym w.1) h.stands)))
     by (inr w) =
-      let place : s.at - w.0 ≡ at = omega (arith, w.2) in
-      subst (λ n. Contains (stop_finds s (encode_utf8_all (front ++ rest))) (kind.Instruction, n)) place
-      (in_four s (encode_utf8_all (front ++ rest)) w.0 w.1 (subst (λ n. is_at (encode_utf8_all (front ++ rest)) n (codes "<?") ≡ true) (sym place) h.stands))
+        let place : s.at - w.0 ≡ at = omega (arith, w.2) in
+        subst (λ n. Contains (stop_finds s (encode_utf8_all (front ++ rest))) (kind.Instruction, n)) place
+        (in_four s (encode_utf8_all (front ++ rest)) w.0 w.1 (subst (λ n. is_at (encode_utf8_all (front ++ rest)) n (codes "<?") ≡ true) (sym place) h.stands))
 
 -- and only there
 
@@ -249,8 +249,8 @@ stops_told begin are_placed open_marks heads doctypes instructions front rest s 
     syntax : (at : ℕ) → IsCause (encode_utf8_all (front ++ rest)) kind.Syntax at → Contains (every front s (encode_utf8_all (front ++ rest)) k) (kind.Syntax, at)
     syntax at (inl h) = fault kind.Syntax at h
     syntax at (inr h) =
-      let same : s.at + k ≡ at = one_longest (encode_utf8_all (front ++ rest)) (s.at + k) at (comes begin front rest s k runs stops).longest h.1 in
-      subst (λ n. Contains (every front s (encode_utf8_all (front ++ rest)) k) (kind.Syntax, n)) same (at_last front s (encode_utf8_all (front ++ rest)) k)
+        let same : s.at + k ≡ at = one_longest (encode_utf8_all (front ++ rest)) (s.at + k) at (comes begin front rest s k runs stops).longest h.1 in
+        subst (λ n. Contains (every front s (encode_utf8_all (front ++ rest)) k) (kind.Syntax, n)) same (at_last front s (encode_utf8_all (front ++ rest)) k)
 
     syntax_back : (at : ℕ) → Contains (found front) (kind.Syntax, at) ⊎ (Contains (stop_finds s (encode_utf8_all (front ++ rest))) (kind.Syntax, at) ⊎ ((kind.Syntax ≡ kind.Syntax) × (s.at + k ≡ at))) → IsCause (encode_utf8_all (front ++ rest)) kind.Syntax at
     syntax_back at (inl w) = inl (found_fault (encode_utf8_all (front ++ rest)) front s k runs (comes begin front rest s k runs stops) kind.Syntax at w)

@@ -220,7 +220,7 @@ along_comment_any Q at n end ret o cs a b c d in_it last h e =
     let xml = comment_xml cs h in
     let four : ℕ = at + 1 + 1 + 1 + 1 in
     let inside : Along (λ t. (at + 4 ≤ t.at) → Q t) (state four (mode.Comment 0) o) (cs ++ comment_end) =
-        through_comment (λ t. (at + 4 ≤ t.at) → Q t) o cs four 0 end (λ p m low high. in_it p m high low) (λ low. last) (omega arith) xml.0 xml.1 (omega (arith, e)) in
+    through_comment (λ t. (at + 4 ≤ t.at) → Q t) o cs four 0 end (λ p m low high. in_it p m high low) (λ low. last) (omega arith) xml.0 xml.1 (omega (arith, e)) in
     after_bang Q at n ret o (45 ∷ 45 ∷ (cs ++ comment_end)) a b
     (on_to Q (state (at + 1 + 1) mode.Bang o) (state (at + 1 + 1 + 1) mode.Dash o) 45 (45 ∷ (cs ++ comment_end)) c (dash_here (at + 1 + 1) o)
     (on_to Q (state (at + 1 + 1 + 1) mode.Dash o) (state four (mode.Comment 0) o) 45 (cs ++ comment_end) d (comment_here (at + 1 + 1 + 1) o)

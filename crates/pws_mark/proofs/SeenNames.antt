@@ -50,8 +50,8 @@ finds_of_names m seen [] = refl
 finds_of_names m seen (a ∷ more) =
     append_assoc (if_found (is_wrong_read m a (prefix_declared a.name)) kind.Prefix a.at) (if_found (list_any (are_one (names_of m a)) (map (names_of m) seen)) kind.Twice a.at) (finds_behind m (map (names_of m) (a ∷ seen)) more)
     ∙ ap (λ z. if_found (is_wrong_read m a (prefix_declared a.name)) kind.Prefix a.at ++ z) (
-      ap (λ b. if_found b kind.Twice a.at ++ finds_behind m (map (names_of m) (a ∷ seen)) more) (sym (any_names m a seen))
-      ∙ ap (λ z. if_found (list_any (are_read_twice m a) seen) kind.Twice a.at ++ z) (finds_of_names m (a ∷ seen) more)
+    ap (λ b. if_found b kind.Twice a.at ++ finds_behind m (map (names_of m) (a ∷ seen)) more) (sym (any_names m a seen))
+    ∙ ap (λ z. if_found (list_any (are_read_twice m a) seen) kind.Twice a.at ++ z) (finds_of_names m (a ∷ seen) more)
     )
 
 pub lowered_append : (least : Option MarkError) (xs ys : List (MarkKind × ℕ)) → lowered least (xs ++ ys) ≡ lowered (lowered least xs) ys

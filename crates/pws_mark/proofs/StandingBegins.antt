@@ -84,7 +84,7 @@ content_begins s front n ret m h place = record {
   written = write_finish h.context ∙ ap (λ z. z ++ rest_of h.context) (sym (append-nil (written h.context)) ∙ sym h.front_is);
   whole = λ e. whole_rest h.context s.outer h.agrees (subst (λ k. is_whole (record { at = s.at; mode = k; outer = s.outer }) ≡ true) m e);
   early = λ e. early_before h.context h.context s.outer front [] [] s.at h.agrees h.front_is (and_parts (is_early_in s.mode) (is_before (region s.outer)) e).1 place (finish_lawful h.context h.lawful)
-    (λ hd i. subst (λ x. (write_head (finish x) ++ write_content hd.before ≡ write_front hd) × (write_prolog (finish x) ≡ front ++ [])) (sym i) (refl, subst (λ x. written x ≡ front ++ []) i (sym (append-nil (written h.context)) ∙ (sym h.front_is ∙ sym (append-nil front)))));
+      (λ hd i. subst (λ x. (write_head (finish x) ++ write_content hd.before ≡ write_front hd) × (write_prolog (finish x) ≡ front ++ [])) (sym i) (refl, subst (λ x. written x ≡ front ++ []) i (sym (append-nil (written h.context)) ∙ (sym h.front_is ∙ sym (append-nil front)))));
 }
 
 abbrev empty_comment : Content
@@ -113,7 +113,7 @@ opened_begins s front part more h parts whole place r = by h.context refl
           written = written_finish (with_content (Before hd) empty_comment) front more y_written;
           whole = λ w. not_whole _ whole w;
           early = λ w. in_prolog (finish (with_content (Before hd) empty_comment)) front more (write_content hd.before ++ part) s.at (finish_lawful (with_content (Before hd) empty_comment) y_lawful) place
-            (front_is ∙ append_assoc (write_head (finish (with_content (Before hd) empty_comment))) (write_content hd.before) part) y_written;
+              (front_is ∙ append_assoc (write_head (finish (with_content (Before hd) empty_comment))) (write_content hd.before) part) y_written;
         }
 
 begins_in : (s : State) (m : Mode) (front : List ℕ) → s.mode ≡ m → StandsIn m s.outer front → s.at ≡ length (encode_utf8_all front) → Begins s front
@@ -127,7 +127,7 @@ begins_in s (mode.Start marked) front m h place =
       written = write_finish (Before (bare (not marked))) ∙ ap (λ z. z ++ rest_of (Before (bare (not marked)))) (sym (append-nil (write_front (bare (not marked)))) ∙ sym here.front_is);
       whole = λ w. not_whole _ (ap (λ k. is_whole (record { at = s.at; mode = k; outer = s.outer })) m) w;
       early = λ w. in_prolog (finish (Before (bare (not marked)))) front [] [] s.at (finish_lawful (Before (bare (not marked))) (record { declaration = refl; before = refl })) place
-        (here.front_is ∙ ap (λ z. z ++ []) (append-nil (write_head (finish (Before (bare (not marked))))))) (sym (append-nil (write_front (bare (not marked)))) ∙ (sym here.front_is ∙ sym (append-nil front)));
+          (here.front_is ∙ ap (λ z. z ++ []) (append-nil (write_head (finish (Before (bare (not marked))))))) (sym (append-nil (write_front (bare (not marked)))) ∙ (sym here.front_is ∙ sym (append-nil front)));
     }
   where
     bare_is : (mark : Bool) → mark_text mark ≡ write_front (bare mark) ++ []

@@ -95,8 +95,13 @@ as_pseudo gap before after quote value = record { gap = gap; before = before; af
 closes : (o : Outer) (front : List ℕ) (l : Literal) (q n c : ℕ) → InLiteral l q n o front → n ≡ length (literal_word l) → c ≡ q → Goes_on (Some (declaring.Gap (part_behind l) false)) o (front ++ c ∷ [])
 closes o front l q n c h size is = record {
   gap = [];
-  declares = record { outside = declares.outside; mark = declares.mark; read = grown.new; lawful = grown.lawful;
-    is = ap (λ z. z ++ c ∷ []) declares.is ∙ (append_assoc (mark_text declares.mark) (write_declared declares.read ++ (h.at.at.gap ++ (part_word (part_with l) ++ (h.at.before ++ 61 ∷ (h.at.after ++ q ∷ h.chars))))) (c ∷ []) ∙ ap (λ z. mark_text declares.mark ++ z) (ap (λ d. (write_declared declares.read ++ (h.at.at.gap ++ (part_word (part_with l) ++ (h.at.before ++ 61 ∷ (h.at.after ++ q ∷ h.chars))))) ++ d ∷ []) is ∙ (on (write_declared declares.read) h.at.at.gap (part_word (part_with l)) h.at.before h.at.after h.chars ∙ ap (λ z. z ++ []) (sym grown.is)))) };
+  declares = record {
+    outside = declares.outside;
+    mark = declares.mark;
+    read = grown.new;
+    lawful = grown.lawful;
+    is = ap (λ z. z ++ c ∷ []) declares.is ∙ (append_assoc (mark_text declares.mark) (write_declared declares.read ++ (h.at.at.gap ++ (part_word (part_with l) ++ (h.at.before ++ 61 ∷ (h.at.after ++ q ∷ h.chars))))) (c ∷ []) ∙ ap (λ z. mark_text declares.mark ++ z) (ap (λ d. (write_declared declares.read ++ (h.at.at.gap ++ (part_word (part_with l) ++ (h.at.before ++ 61 ∷ (h.at.after ++ q ∷ h.chars))))) ++ d ∷ []) is ∙ (on (write_declared declares.read) h.at.at.gap (part_word (part_with l)) h.at.before h.at.after h.chars ∙ ap (λ z. z ++ []) (sym grown.is))));
+  };
   comes = grown.comes;
   white = refl;
   some = λ e. absurd cc;
@@ -167,10 +172,10 @@ pub end_goes : (o : Outer) (front : List ℕ) (c : ℕ) (e : Option Declaring) �
 unfolding declaring_step
 end_goes o front c e h step = elim (which (c == 62) _ _ _ step) [
   | inl i ↦ subst (λ y. Goes_on y o (front ++ c ∷ [])) i.1 (record {
-      here = at_head o (front ++ c ∷ []) h.declares.mark made.declaration Nothing [] h.declares.outside (record { declaration = made.lawful; before = refl })
+    here = at_head o (front ++ c ∷ []) h.declares.mark made.declaration Nothing [] h.declares.outside (record { declaration = made.lawful; before = refl })
         (ap (λ z. z ++ c ∷ []) h.declares.is ∙ (on (mark_text h.declares.mark) (write_declared h.declares.read) h.gap ∙ (ap (λ d. mark_text h.declares.mark ++ (write_declared h.declares.read ++ (h.gap ++ 63 ∷ d ∷ []))) (eqb-true c 62 i.0) ∙ (ap (λ z. mark_text h.declares.mark ++ z) (sym made.is) ∙ last (mark_text h.declares.mark) (write_declaration made.declaration)))));
-      marks = tt;
-    })
+    marks = tt;
+  })
   | inr g ↦ none_step e g.1
 ]
   where

@@ -285,7 +285,7 @@ name_reaches [] done o front here inside is =
     let i = innermost_is here.context o inside here.agrees in
     let name : i.first.name ≡ done = i.name ∙ (is ∙ append-nil done) in
     (then_ends (mode.EndName (length done)) (mode.Content 0 false) o (ended i.first i.more o.events o.text) 62 (name_closes o i.first i.more done i.opens name) (content_ends 0 false _)).reaches front
-      (record { done = done; todo = []; here = here; inside = inside; name = is; size = refl })
+    (record { done = done; todo = []; here = here; inside = inside; name = is; size = refl })
 name_reaches (c ∷ todo) done o front here inside is =
     let r = name_reaches todo (done ++ c ∷ []) o (front ++ c ∷ []) (at_more o front (60 ∷ 47 ∷ done) (60 ∷ 47 ∷ (done ++ c ∷ [])) c refl here) inside (is ∙ sym (append_assoc done (c ∷ []) todo)) in
     record { context = r.context; lawful = r.lawful; more = c ∷ r.more; is = r.is ∙ append_assoc front (c ∷ []) r.more }

@@ -28,7 +28,6 @@ use Rattle.pws_mark.proofs.Standing.{Head, Context, Before, Inside, Behind, Fram
 use Rattle.pws_mark.proofs.StandingTokens.{which, NameSoFar, name_begins, name_grows, name_colon, name_starts, RefHolds, ref_goes, ref_done, IsRef}
 use Rattle.pws_mark.proofs.StandingModes.{InContent, MarksAre, Stands, StandsIn, at_more, at_turned, region_of, region_agrees, tag_front, InTagName, InTheTag, InTag, InSlash, InAttributeName, InBeforeEquals, InAfterEquals, InValue, InValueReference, InEndName, InEndGap}
 use Rattle.pws_mark.proofs.StandingSteps.{which_stays, never}
-
 use Rattle.pws_mark.proofs.StandingTags.{in_tag_more, no_names, white_one}
 use Rattle.pws_mark.proofs.TakesReferences.{behind_mark, is_reference}
 
@@ -41,10 +40,10 @@ value_more o front t n v w before c p quote is lawful h =
     let part = λ (q : ℕ) (more : List ℕ). h.gap ++ (n.name ++ (h.before ++ 61 ∷ (h.after ++ q ∷ more))) in
     let last = flat_map write_piece (h.pieces ++ p ∷ []) ++ [] in
     let e : part v.quote (flat_map write_piece h.pieces ++ before) ++ c ∷ [] ≡ part w.quote last =
-      on h.gap n.name h.before h.after v.quote (flat_map write_piece h.pieces) before c
-      ∙ (ap (λ z. part v.quote (flat_map write_piece h.pieces ++ z)) (sym is)
-      ∙ (ap (λ z. part v.quote z) (sym (pieces_on h.pieces p) ∙ sym (append-nil (flat_map write_piece (h.pieces ++ p ∷ []))))
-      ∙ ap (λ q. part q last) (sym quote))) in
+    on h.gap n.name h.before h.after v.quote (flat_map write_piece h.pieces) before c
+    ∙ (ap (λ z. part v.quote (flat_map write_piece h.pieces ++ z)) (sym is)
+    ∙ (ap (λ z. part v.quote z) (sym (pieces_on h.pieces p) ∙ sym (append-nil (flat_map write_piece (h.pieces ++ p ∷ []))))
+    ∙ ap (λ q. part q last) (sym quote))) in
     record {
       gap = h.gap;
       before = h.before;
@@ -70,9 +69,9 @@ attribute_ends o front t n v c same h =
     let tag = h.tag in
     let part = h.gap ++ (n.name ++ (h.before ++ 61 ∷ (h.after ++ v.quote ∷ (values ++ [])))) in
     let chars : tag_front t.name tag.attributes part ++ c ∷ [] ≡ tag_front t.name (tag.attributes ++ a ∷ []) [] =
-      on t.name (flat_map write_attribute tag.attributes) h.gap n.name h.before h.after v.quote values c
-      ∙ (ap (λ d. 60 ∷ (t.name ++ ((flat_map write_attribute tag.attributes ++ (h.gap ++ (n.name ++ (h.before ++ 61 ∷ (h.after ++ v.quote ∷ (values ++ d ∷ [])))))) ++ []))) same
-      ∙ ap (λ z. 60 ∷ (t.name ++ (z ++ []))) (sym (flat_map-append write_attribute tag.attributes (a ∷ []) ∙ ap (λ z. flat_map write_attribute tag.attributes ++ z) (append-nil (write_attribute a))))) in
+    on t.name (flat_map write_attribute tag.attributes) h.gap n.name h.before h.after v.quote values c
+    ∙ (ap (λ d. 60 ∷ (t.name ++ ((flat_map write_attribute tag.attributes ++ (h.gap ++ (n.name ++ (h.before ++ 61 ∷ (h.after ++ v.quote ∷ (values ++ d ∷ [])))))) ++ []))) same
+    ∙ ap (λ z. 60 ∷ (t.name ++ (z ++ []))) (sym (flat_map-append write_attribute tag.attributes (a ∷ []) ∙ ap (λ z. flat_map write_attribute tag.attributes ++ z) (append-nil (write_attribute a))))) in
     let lawful : is_attribute a ≡ true = and_from _ _ h.white (and_from _ _ h.name (and_from _ _ h.before_white (and_from _ _ h.after_white (and_from _ _ h.quote h.lawful)))) in
     record {
       gap = [];
@@ -193,7 +192,7 @@ innermost_is (Behind h root after) o x xs inside opens agrees = absurd cc
 tag_closes : (o : Outer) (front : List ℕ) (x : Open) (xs : List Open) (name gap : List ℕ) (h : At o front (60 ∷ 47 ∷ (name ++ gap))) → is_inside h.context ≡ true → innermost h.context ≡ name → list_all is_white gap ≡ true → o.opens ≡ x ∷ xs → InContent 0 (ended x xs o.events o.text) (front ++ 62 ∷ [])
 tag_closes o front x xs name gap h inside is white opens =
     let chars : written (closed_in_context h.context gap) ≡ written h.context ++ ((60 ∷ 47 ∷ (name ++ gap)) ++ 62 ∷ []) =
-      written_closed h.context gap inside ∙ (ap (λ n. written h.context ++ 60 ∷ 47 ∷ (n ++ (gap ++ 62 ∷ []))) is ∙ ap (λ z. written h.context ++ 60 ∷ 47 ∷ z) (sym (append_assoc name gap (62 ∷ [])))) in
+    written_closed h.context gap inside ∙ (ap (λ n. written h.context ++ 60 ∷ 47 ∷ (n ++ (gap ++ 62 ∷ []))) is ∙ ap (λ z. written h.context ++ 60 ∷ 47 ∷ z) (sym (append_assoc name gap (62 ∷ [])))) in
     record {
       here = at_turned o (ended x xs o.events o.text) front (60 ∷ 47 ∷ (name ++ gap)) 62 h (closed_in_context h.context gap) (lawful_closed h.context gap inside h.lawful white) (agrees_closed h.context gap o x xs inside opens h.agrees) chars;
       marks = marks_closed h.context gap inside;

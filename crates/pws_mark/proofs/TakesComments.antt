@@ -56,7 +56,6 @@ after_mark (suc zero) c rest small none = by (c == 45) (eqb-true c 45) (or_parts
     by false same parts = (omega arith, (or_parts _ _ parts.1).1)
 after_mark (suc (suc n)) c rest small none = absurd (omega arith)
 
-
 goes_through : (o : Outer) (cs : List ℕ) (at n : ℕ) → n < 2 → list_all is_xml_char cs ≡ true → has_within (45 ∷ 45 ∷ []) (replicate n 45 ++ (cs ++ 45 ∷ [])) ≡ false →
     Goes (state at (mode.Comment n) o) (cs ++ comment_end) (state (at + (length (encode_utf8_all cs) + 3)) (mode.Content 0 false) o) []
 goes_through o [] at zero small xml none = goes_at (state at (mode.Comment 0) o) comment_end (mode.Content 0 false) o [] (at + 3) (at + (0 + 3)) (omega arith) (comment_ends o at)

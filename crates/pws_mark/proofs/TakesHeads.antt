@@ -145,11 +145,11 @@ choice_in v quote at h is = by (bytes_eq v (codes "yes")) (bytes_eq v (codes "no
   where
     yes : Goes (in_head at (declaring.Choice quote)) (121 ∷ 101 ∷ 115 ∷ quote ∷ []) (in_head (at + 4) (declaring.Gap part.End false)) []
     yes = goes_at (in_head at (declaring.Choice quote)) (121 ∷ 101 ∷ 115 ∷ quote ∷ []) (mode.Declaring (declaring.Gap part.End false)) outside [] (at + 1 + 3) (at + 4) (omega arith)
-      (goes_on_to _ _ _ (121 ∷ []) (101 ∷ 115 ∷ quote ∷ []) [] [] (declares_once (declaring.Choice quote) (declaring.Value literal.Yes quote 1) at 121 refl) (value_in literal.Yes quote (101 ∷ 115 ∷ []) (121 ∷ []) (at + 1) refl is))
+        (goes_on_to _ _ _ (121 ∷ []) (101 ∷ 115 ∷ quote ∷ []) [] [] (declares_once (declaring.Choice quote) (declaring.Value literal.Yes quote 1) at 121 refl) (value_in literal.Yes quote (101 ∷ 115 ∷ []) (121 ∷ []) (at + 1) refl is))
 
     no_ : Goes (in_head at (declaring.Choice quote)) (110 ∷ 111 ∷ quote ∷ []) (in_head (at + 3) (declaring.Gap part.End false)) []
     no_ = goes_at (in_head at (declaring.Choice quote)) (110 ∷ 111 ∷ quote ∷ []) (mode.Declaring (declaring.Gap part.End false)) outside [] (at + 1 + 2) (at + 3) (omega arith)
-      (goes_on_to _ _ _ (110 ∷ []) (111 ∷ quote ∷ []) [] [] (declares_once (declaring.Choice quote) (declaring.Value literal.No quote 1) at 110 refl) (value_in literal.No quote (111 ∷ []) (110 ∷ []) (at + 1) refl is))
+        (goes_on_to _ _ _ (110 ∷ []) (111 ∷ quote ∷ []) [] [] (declares_once (declaring.Choice quote) (declaring.Value literal.No quote 1) at 110 refl) (value_in literal.No quote (111 ∷ []) (110 ∷ []) (at + 1) refl is))
 
     by : (s t : Bool) → (s ≡ true → v ≡ codes "yes") → (t ≡ true → v ≡ codes "no") → (s || t) ≡ true → Goes (in_head at (declaring.Choice quote)) (v ++ quote ∷ []) (in_head (at + (length (encode_utf8_all v) + 1)) (declaring.Gap part.End false)) []
     by true t a b g = subst (λ w. Goes (in_head at (declaring.Choice quote)) (w ++ quote ∷ []) (in_head (at + (length (encode_utf8_all w) + 1)) (declaring.Gap part.End false)) []) (sym (a refl)) yes

@@ -250,7 +250,7 @@ tag_name_goes o at (c ∷ cs) inside lawful =
     let parts = and_parts (is_name_start c) (goes_on false cs) lawful in
     let deep = if_found (nat_le 64 (length o.opens)) kind.Depth at in
     let first : Goes (state (at + 1) (mode.Opened at) o) (c ∷ []) (state (at + 1 + length (encode_utf8 c)) (mode.TagName (named at (c ∷ [])) false) o) (ending (at + 1 + length (encode_utf8 c)) deep) =
-      goes_once (mode.Opened at) (mode.TagName (named at (c ∷ [])) false) o o (at + 1) c deep (opens (region o) inside parts.0) (rw parts.0 refl) in
+    goes_once (mode.Opened at) (mode.TagName (named at (c ∷ [])) false) o o (at + 1) c deep (opens (region o) inside parts.0) (rw parts.0 refl) in
     let place : at + 1 + length (encode_utf8 c) ≡ at + (1 + length (encode_utf8 c)) = omega arith in
     let noted_there : ending (at + 1 + length (encode_utf8 c)) deep ≡ depth_faults (length o.opens) at (c ∷ cs) = ap (λ p. ending p deep) place ∙ ending_found (nat_le 64 (length o.opens)) kind.Depth at (at + (1 + length (encode_utf8 c))) in
     subst (λ fs. Goes (state (at + 1) (mode.Opened at) o) (c ∷ cs) (state (at + (1 + length (encode_utf8 c ++ encode_utf8_all cs))) (mode.TagName (named at (c ∷ cs)) false) o) fs) (append-nil (ending (at + 1 + length (encode_utf8 c)) deep) ∙ noted_there)

@@ -19,22 +19,22 @@
 //! for that tree, and no other tree has it. Nothing stands on this layer yet; the layer of envelopes will.
 #![tactic(auto)]
 
+mod declaring;
 pub mod errors;
 pub mod laws;
 mod least;
 pub mod modes;
-mod declaring;
 mod names;
 mod outer;
+mod reader_laws;
 mod references;
 mod resolving;
 mod scopes;
-mod spaces;
 mod seen;
+mod spaces;
 mod tags;
 #[cfg(test)]
 mod tests;
-mod reader_laws;
 pub mod writing;
 
 ghost use Rattle.pws_mark.specs.Examples.{WorkedTexts};

@@ -7,7 +7,9 @@ ghost use Rattle.pws_mark.specs.Meaning.{no_name, name_of};
 ghost use Rattle.pws_mark.specs.Noted.{read_name};
 ghost use Rattle.pws_mark.specs.States.{bound_at};
 
-use crate::names::{has_colon, has_two_colons, prefix_declared, text_of, written_local, written_prefix};
+use crate::names::{
+    has_colon, has_two_colons, prefix_declared, text_of, written_local, written_prefix,
+};
 use crate::scopes::{Opens, Scope};
 use pws_base::lists::ExactCopy;
 use pws_base::memory::Memory;

@@ -34,7 +34,8 @@ fn same_name(name: &Option<Name>, other: &Option<Name>) -> bool
 {
     match (name, other) {
         (Some(name), Some(other)) => {
-            name.space.as_str() == other.space.as_str() && name.local.as_str() == other.local.as_str()
+            name.space.as_str() == other.space.as_str()
+                && name.local.as_str() == other.local.as_str()
         }
         _ => false,
     }
@@ -68,7 +69,12 @@ impl Seen {
     /// # Errors
     ///
     /// `Memory` only.
-    pub fn push(&mut self, alloc: Global, written: &[char], bound: Option<Name>) -> Result<(), Memory>
+    pub fn push(
+        &mut self,
+        alloc: Global,
+        written: &[char],
+        bound: Option<Name>,
+    ) -> Result<(), Memory>
         ensures { OnOk result (self.new ≡ (written.now, bound) ∷ self.old) }
     {
         self.items.push((letters_of(alloc, written)?, bound))

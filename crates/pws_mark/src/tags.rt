@@ -49,16 +49,15 @@ fn is_fixed(prefix: &[char]) -> bool
 }
 
 /// Notes what an attribute declares.
-fn declare(
-    alloc: Global,
-    scope: &mut Scope,
-    attribute: &ReadAttribute,
-) -> Result<(), Memory>
+fn declare(alloc: Global, scope: &mut Scope, attribute: &ReadAttribute) -> Result<(), Memory>
     ensures { OnOk result (scope.new ≡ scope.old ++ own_bound (attribute.now ∷ [])) }
 {
     if let Some(prefix) = prefix_declared(attribute.name.as_slice()) {
         if !is_fixed(prefix) {
-            scope.push(letters_of(alloc, prefix)?, copy_space(alloc, &attribute.value)?)?;
+            scope.push(
+                letters_of(alloc, prefix)?,
+                copy_space(alloc, &attribute.value)?,
+            )?;
         }
     }
     Ok(())
@@ -90,7 +89,11 @@ fn or_empty(alloc: Global, value: Option<Text>) -> Text
 }
 
 /// An attribute, where it isn't a declaration.
-fn attr_of(alloc: Global, inside: &Inside, attribute: &ReadAttribute) -> Result<Option<Attr>, Memory>
+fn attr_of(
+    alloc: Global,
+    inside: &Inside,
+    attribute: &ReadAttribute,
+) -> Result<Option<Attr>, Memory>
     ensures { IfOk result (λ a. a ≡ read_attr inside.now attribute.now) }
 {
     if prefix_declared(attribute.name.as_slice()).is_some() {
