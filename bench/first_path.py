@@ -6,6 +6,8 @@ import subprocess
 import sys
 import tempfile
 
+from measure import least
+
 RUNS = 9
 HEAD = "pws-schedule 1\nseed {}\ngroup 0 0\ngroup 1 0\nbad 0.0\nbegin\n".format("0" * 64)
 
@@ -17,16 +19,6 @@ def schedule(lines):
         number = k + 1 if k < 32 else 1 + k % 1000000
         said.append("say 0.0 1.0 01{:08x}{:08x}00000010{}\n".format(number, number, "6869" * 8))
     return HEAD + "".join(said) + "end\n"
-
-
-def spent(program, path):
-    """The processor time in seconds of one run."""
-    with open(path, "rb") as source:
-        child = subprocess.Popen([program, "run"], stdin=source, stdout=subprocess.DEVNULL)
-        _, status, usage = os.wait4(child.pid, 0)
-    if status != 0:
-        sys.exit("the program ended with wait status {}".format(status))
-    return usage.ru_utime + usage.ru_stime
 
 
 def peak(program, path):
@@ -48,12 +40,12 @@ def main():
             with open(path, "w") as out:
                 out.write(schedule(lines))
             size = os.path.getsize(path)
-            least = min(spent(program, path) for _ in range(RUNS))
+            time = least(RUNS, [program, "run"], path)
             memory = peak(program, path)
-            ratio = "" if before is None else ", time {:.2f} of the one before".format(least / before)
+            ratio = "" if before is None else ", time {:.2f} of the one before".format(time / before)
             share = "not measured, as the command time isn't installed" if memory is None else "{:.1f} times the input".format(memory / size)
-            print("{} lines, {} bytes: {:.0f} ms{}, memory {}".format(lines, size, least * 1000, ratio, share))
-            before = least
+            print("{} lines, {} bytes: {:.0f} ms{}, memory {}".format(lines, size, time * 1000, ratio, share))
+            before = time
 
 
 main()

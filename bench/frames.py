@@ -1,9 +1,10 @@
 """Feeds streams of frames of growing size to a program in pieces, and prints ratios. usage: frames.py PROGRAM"""
 
 import os
-import subprocess
 import sys
 import tempfile
+
+from measure import run
 
 RUNS = 5
 LENGTHS = (61, 1, 1000, 98304, 17, 20000)
@@ -22,14 +23,12 @@ def stream(path, size):
 
 
 def spent(program, path, piece, frames):
-    """The processor time in seconds of one run."""
+    """The processor time in seconds of one run, which tells how much it was fed."""
     with open(path, "rb") as source:
-        child = subprocess.Popen([program, str(piece)], stdin=source, stdout=subprocess.PIPE)
-        told = child.stdout.read().decode()
-        _, status, usage = os.wait4(child.pid, 0)
-    if status != 0 or told != "packets {} bytes {}\n".format(frames, os.path.getsize(path)):
-        sys.exit("the program ended with wait status {} and wrote {!r}".format(status, told))
-    return usage.ru_utime + usage.ru_stime
+        time, told = run([program, str(piece)], source)
+    if told != "packets {} bytes {}\n".format(frames, os.path.getsize(path)):
+        sys.exit("the program wrote {!r}".format(told))
+    return time
 
 
 def main():
