@@ -98,7 +98,7 @@ new_run =
     let r3 : ReachedWith ForgetsSlots g c3 t3 = steps ForgetsSlots g c2 t2 1 started (say.NewView new ∷ []) r2 (omega arith, refl)
     (offer moved new heard no_slots 0 refl refl refl agrees (heard_in t2 (1, omega arith, refl) (0, omega arith, refl)) (accepts_none moved new)) refl in
     steps ForgetsSlots g c3 t3 2 entered [] r3 (omega arith, refl)
-    (enter moved new heard no_slots 0 [] refl (λ e. absurd (omega (arith, e))) refl (inr (0, omega arith, refl)) agrees (λ h k. heard_is_had g t3 1 h (heard_in t3 (2, omega arith, refl) (1, omega arith, refl) h k)) (accepts_none moved new) (prepares_none moved new)) refl
+    (enter moved new heard no_slots 0 [] refl (λ e. absurd (omega (arith, e))) refl (inr (0, omega arith, refl)) agrees (λ h k. heard_is_had g t3 1 h (heard_in t3 (2, omega arith, refl) (1, omega arith, refl) h k)) (accepts_none moved new) (prepares_none moved)) refl
 
 -- 1 proposes another digest, which is committed
 abbrev vote : Statement

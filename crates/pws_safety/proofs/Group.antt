@@ -18,7 +18,7 @@ use Rattle.pws_safety.specs.Runs.{Reached, start, step, again, IsTrusted, with_c
 use Rattle.pws_safety.specs.Agreement.{RepeatsKeep, MoreIsKept, HadIsBehind, CommittedIsSettled, SlotsKeepTheChoice, StepsKeep, KeptGivesFacts, RunsKeep}
 use Rattle.pws_safety.proofs.Members.{nowhere, here, first_or_rest}
 use Rattle.pws_safety.proofs.Counted.{at_least_weaker}
-use Rattle.pws_safety.proofs.Slots.{none_some, prepare_pledge, propose_pledge}
+use Rattle.pws_safety.proofs.Slots.{none_some, no_start, prepare_pledge, propose_pledge}
 use Rattle.pws_safety.proofs.Next.{linked_step}
 use Rattle.pws_safety.proofs.Keeping.{kept_accept, kept_prepare, kept_commit, kept_lower, kept_move, kept_ack, Enters, kept_enter}
 use Rattle.pws_safety.proofs.Views.{quorum_settles}
@@ -93,6 +93,9 @@ module _ (g : Group) (occurs : ViewChange → Bool) (backed : List ℕ → Bool)
     state_true = tells_same me s.said (report_of s s.view [] s.prepared s.pre_prepared) l.state_true;
     changes_true = λ c h. tells_same me s.said c (l.changes_true c h);
     entered = λ a pos. let r = l.entered a pos in (r.0, r.1, r.2, grounds_more r.0 r.3, r.4);
+    change_said = l.change_said;
+    start_said = l.start_said;
+    proposals_said = l.proposals_said;
     reason = λ v p d st. reason_more v p d (l.reason v p d (stood_back me s.said v p d st));
     acked = λ v j d h. let r = l.acked v j d h in (r.0, heard_more v j r.0 r.1, r.2);
     named = λ n h m k. let r = l.named n h m k in (r.0, heard_more n.view m.index r.0 r.1, r.2);
@@ -162,22 +165,23 @@ module _ (g : Group) (trusted : IsTrusted g) (cores : ℕ → Core) (before afte
   all_told : (v p : ℕ) (d : List ℕ) (k : ℕ) → AtLeast (size g) k (λ i. Told g before i (Commit v p d)) → AtLeast (size g) k (λ i. Told g after i (Commit v p d))
   all_told v p d k many = at_least_weaker (size g) k (λ i. Told g before i (Commit v p d)) (λ i. Told g after i (Commit v p d)) (λ i t. told_later g before after stays i (Commit v p d) t) many
 
-  enters_backup : (s : Core) (new : NewView) (slots : ℕ → Option Slot) (last : ℕ) (says : List Statement) (l : Keeps g after me s) (still : s.active ≡ false) → new.view ≡ s.view
-      → Told g after (primary g s.view) (say.NewView new) → HasGrounds g after new → AcceptsChosen s new slots last → PreparesChosen s new slots says
+  enters_backup : (s : Core) (new : NewView) (slots : ℕ → Option Slot) (last : ℕ) (says : List Statement) (l : Keeps g after me s) (still : s.active ≡ false) → (me ≡ primary g s.view → ⊥) → new.view ≡ s.view
+      → Told g after (primary g s.view) (say.NewView new) → HasGrounds g after new → AcceptsChosen s new slots last → PreparesChosen s slots says
       → Enters g after me s new slots last says l still
-  enters_backup s new slots last says l still view told grounds accepts prepares = record {
-    said_view = λ x h. let r = prepares.only x h in ap view_of r.2;
-    said_commit = λ v p d h. let r = prepares.only (Commit v p d) h in let e = r.2 in cc;
-    said_change = λ c h. let r = prepares.only (say.ViewChange c) h in let e = r.2 in cc;
-    said_ack = λ v j d h. let r = prepares.only (Ack v j d) h in let e = r.2 in cc;
-    said_new = λ n h. absurd (let r = prepares.only (say.NewView n) h in let e = r.2 in cc);
-    said_chosen = λ x h v p d st. (let r = prepares.only x h in let t = subst (λ y. StandsBy g me y v p d) r.2 st in
-        (sym t.0, subst (λ y. Gives new.choice p y) t.2 (subst (λ y. Gives new.choice y r.1) t.1 r.3)));
-    slot_last = λ p t h. (accepts p t h).1;
-    slot_new = λ p t h. (let r = accepts p t h in
+  enters_backup s new slots last says l still other view told grounds accepts prepares = record {
+    said_view = λ x h. let r = prepares.only x h in ap view_of r.3;
+    said_commit = λ v p d h. let r = prepares.only (Commit v p d) h in let e = r.3 in cc;
+    said_change = λ c h. let r = prepares.only (say.ViewChange c) h in let e = r.3 in cc;
+    said_ack = λ v j d h. let r = prepares.only (Ack v j d) h in let e = r.3 in cc;
+    said_new = λ n h. absurd (let r = prepares.only (say.NewView n) h in let e = r.3 in cc);
+    said_chosen = λ x h v p d st. (let r = prepares.only x h in let t = subst (λ y. StandsBy g me y v p d) r.3 st in let k = accepts.each r.0 r.1 r.2 in
+        (sym t.0, subst (λ y. Gives new.choice p y) t.2 (subst (λ y. Gives new.choice y r.1.digest) t.1 k.2)));
+    slot_last = λ p t h. (accepts.each p t h).1;
+    slot_new = λ p t h. (let r = accepts.each p t h in
         (r.0, r.3, (Prepare s.view p t.digest, prepares.each p t h, (refl, refl, refl)), start_backs s.view p t.digest new view r.2 told));
     in_view = view;
     grounds = grounds;
+    start_said = λ lead. absurd (other lead);
   }
 
   -- what the primary names it heard
@@ -201,11 +205,12 @@ module _ (g : Group) (trusted : IsTrusted g) (cores : ℕ → Core) (before afte
     said_new = λ n h. (let e = one (say.NewView n) h in let same : new ≡ n = cc in
         subst (λ (y : NewView). (m : Named) → Contains y.named m → (c : ViewChange) × IsHeard g after y.view m.index c × (g.digest_of c ≡ m.digest)) same (offered s.view new heard view agrees each));
     said_chosen = λ x h v p d st. (let t = subst (λ y. StandsBy g me y v p d) (sym (one x h)) st in (sym t.0 ∙ view, t.1));
-    slot_last = λ p t h. (accepts p t h).1;
-    slot_new = λ p t h. (let r = accepts p t h in
+    slot_last = λ p t h. (accepts.each p t h).1;
+    slot_new = λ p t h. (let r = accepts.each p t h in
         (r.0, r.3, (say.NewView new, here (say.NewView new) [], (view, r.2, lead)), start_backs s.view p t.digest new view r.2 (inr (subst (λ k. Contains after (k, say.NewView new)) lead own))));
     in_view = view;
     grounds = grounds;
+    start_said = λ _. here (say.NewView new) [];
   }
     where
       one : (x : Statement) → Contains (say.NewView new ∷ []) x → say.NewView new ≡ x
@@ -218,7 +223,7 @@ module _ (g : Group) (trusted : IsTrusted g) (cores : ℕ → Core) (before afte
       kept_accept g after me s p d x l (propose_pledge g me s.view p d lead) (omega (arith, at)) (free_next s p l at) active inside
       (lead_backs s.view p d (inr (subst (λ k. Contains after (k, x)) lead (own x (here x s.said))))) (fresh s p d l active (omega (arith, at)) backed)
   kept_step s n l own (accept s2 p d active other over inside free backed told) =
-      kept_accept g after me s p d (Prepare s.view p d) l (prepare_pledge g me s.view p d) over (free_slot s p l over inside free) active inside
+      kept_accept g after me s p d (Prepare s.view p d) l (prepare_pledge g me s.view p d other) over (free_slot s p l over inside free) active inside
       (lead_backs s.view p d (told_later g before after stays (primary g s.view) (PrePrepare s.view p d) told)) (fresh s p d l active over backed)
   kept_step s n l own (prepare s2 p d active at many) = kept_prepare g after me s p d l at active (others_back s.view p d many)
   kept_step s n l own (commit s2 p d active at many) = kept_commit g after me s p d l at active (all_told s.view p d _ many)
@@ -233,7 +238,7 @@ module _ (g : Group) (trusted : IsTrusted g) (cores : ℕ → Core) (before afte
   kept_step s n l own (enter s2 new heard slots last says still other view told agrees had accepts prepares) =
       let b = behind_had g before trusted.sound trusted.no_collision acks names s.view new heard told view agrees had in
       kept_enter g after me s new slots last says l still
-      (enters_backup s new slots last says l still view (told_later g before after stays (primary g s.view) (say.NewView new) told) (grounds_later g before after stays new (heard, b)) accepts prepares)
+      (enters_backup s new slots last says l still other view (told_later g before after stays (primary g s.view) (say.NewView new) told) (grounds_later g before after stays new (heard, b)) accepts prepares)
       (let pos = behind_view g before new heard b in omega (arith, pos, view))
 
 new_keeps : (g : Group) (sent : Sent) (me : ℕ) → Keeps g sent me new_core
@@ -255,6 +260,9 @@ new_keeps g sent me = record {
   state_true = record { row_said = λ r h. absurd (nowhere r h); row_earlier = λ r h. absurd (nowhere r h); row_latest = λ v p d h. absurd (nowhere (Commit v p d) h); seen_stood = λ q h. absurd (nowhere q h); seen_earlier = λ q h. absurd (nowhere q h) };
   changes_true = λ c h. absurd (nowhere (say.ViewChange c) h);
   entered = λ a pos. absurd (omega arith);
+  change_said = λ pos. absurd (omega arith);
+  start_said = λ lead n e. absurd (no_start n e);
+  proposals_said = λ lead p t e. absurd (none_some t e);
   reason = λ v p d st. absurd (nowhere st.0 st.1);
   acked = λ v j d h. absurd (nowhere (Ack v j d) h);
   named = λ n h. absurd (nowhere (say.NewView n) h);

@@ -12,13 +12,16 @@ use Rattle.pws_msg.specs.declared.changes.Seen.{Seen}
 use Rattle.pws_msg.specs.declared.changes.ViewChange.{ViewChange}
 use Rattle.pws_msg.specs.declared.changes.NewView.{NewView}
 use Rattle.pws_safety.specs.Replicas.{AtLeast}
-use Rattle.pws_safety.specs.Statement.{Statement, Commit, Ack, view_of}
+use Rattle.pws_safety.specs.Statement.{Statement, PrePrepare, Commit, Ack, view_of}
 use Rattle.pws_safety.specs.Statement as say
 use Rattle.pws_safety.specs.Statements.{Group, Sent, Told, Gives, StandsBy, Backs, size, primary}
 use Rattle.pws_safety.specs.Voters.{Slot, Core, accepted, with_slot, after_accept, after_prepare, after_commit, after_lower, report_of, after_move, after_enter, IsTrimmed, IsNoted, IsHeard}
 use Rattle.pws_safety.specs.Kept.{Stood, TellsTrue, HasGrounds, HasReason, IsChosenIn, IsFreshIn, Keeps}
 use Rattle.pws_safety.proofs.Members.{here, there, first_or_rest}
-use Rattle.pws_safety.proofs.Slots.{some_same, none_some, slot_here, slot_other, each_slot, above_is, above_kept, with_one, stood_split, stood_more, stands_view, Pledge, commit_old, change_old, ack_old, new_old, tells_more}
+use Rattle.pws_safety.proofs.Slots.{some_same, none_some, no_start, slot_here, slot_other, each_slot, above_is, above_kept, with_one, stood_split, stood_more, stands_view, Pledge, commit_old, change_old, ack_old, new_old, tells_more}
+
+start_same : (a b : NewView) → ◌≡◌ {A = Option NewView} (Some a) (Some b) → a ≡ b
+start_same a b e = cc
 
 module _ (g : Group) (sent : Sent) (me : ℕ) where
   -- it accepts a digest where it stood for none
@@ -83,6 +86,9 @@ module _ (g : Group) (sent : Sent) (me : ℕ) where
           state_true = tells_more g me x s.said (report_of s s.view [] s.prepared s.pre_prepared) (late (report_of s s.view [] s.prepared s.pre_prepared)) l.state_true;
           changes_true = λ c h. tells_more g me x s.said c (late c) (l.changes_true c (change_old g me x s.said c pl.no_change h));
           entered = l.entered;
+          change_said = λ above. let k = l.change_said above in (k.0, k.1, there x _ s.said k.2);
+          start_said = λ lead n e. there x _ s.said (l.start_said lead n e);
+          proposals_said = λ lead. each_slot (λ q t. s.floor < q → Contains (x ∷ s.said) (PrePrepare s.view q t.digest)) s.slot p (accepted d) (λ _. subst (λ y. Contains (x ∷ s.said) y) (pl.proposes lead) (here x s.said)) (λ q t h o. there x _ s.said (l.proposals_said lead q t h o));
           reason = accept_reason why;
           acked = λ v j e h. l.acked v j e (ack_old g me x s.said v j e pl.no_ack h);
           named = λ n h. l.named n (new_old g me x s.said n pl.no_new h);
@@ -158,6 +164,9 @@ module _ (g : Group) (sent : Sent) (me : ℕ) where
           state_true = tells_more g me x s.said (report_of s s.view [] s.prepared s.pre_prepared) (λ v q e h. let k : s.view ≡ v = cc in omega (arith, k)) l.state_true;
           changes_true = λ c h. let k = prior c h in tells_more g me x s.said c (λ v q e h. let a : s.view ≡ v = cc in let b = l.no_later (say.ViewChange c) k in omega (arith, a, b)) (l.changes_true c k);
           entered = l.entered;
+          change_said = λ above. let k = l.change_said above in (k.0, k.1, there x _ s.said k.2);
+          start_said = λ lead n e. there x _ s.said (l.start_said lead n e);
+          proposals_said = λ lead. each_slot (λ q t. s.floor < q → Contains (x ∷ s.said) (PrePrepare s.view q t.digest)) s.slot p prepared_slot (λ o. there x _ s.said (l.proposals_said lead p _ at o)) (λ q t h o. there x _ s.said (l.proposals_said lead q t h o));
           reason = λ v q e st. l.reason v q e (prepare_stood v q e st);
           acked = λ v j e h. l.acked v j e (ack_old g me x s.said v j e (λ u i y k. cc) h);
           named = λ n h. l.named n (new_old g me x s.said n (λ m k. cc) h);
@@ -202,6 +211,9 @@ module _ (g : Group) (sent : Sent) (me : ℕ) where
           state_true = l.state_true;
           changes_true = l.changes_true;
           entered = l.entered;
+          change_said = l.change_said;
+          start_said = l.start_said;
+          proposals_said = λ lead. each_slot (λ q t. s.floor < q → Contains s.said (PrePrepare s.view q t.digest)) s.slot p committed_slot (l.proposals_said lead p _ at) (l.proposals_said lead);
           reason = l.reason;
           acked = l.acked;
           named = l.named;
@@ -234,6 +246,9 @@ module _ (g : Group) (sent : Sent) (me : ℕ) where
         };
         changes_true = l.changes_true;
         entered = l.entered;
+        change_said = l.change_said;
+        start_said = l.start_said;
+        proposals_said = λ lead q x e. l.proposals_said lead q x (above_is s.slot low q x e).1;
         reason = l.reason;
         acked = l.acked;
         named = l.named;
@@ -339,6 +354,9 @@ module _ (g : Group) (sent : Sent) (me : ℕ) where
           state_true = record { row_said = move_row; row_earlier = move_row_earlier; row_latest = move_latest; seen_stood = move_seen; seen_earlier = move_seen_earlier };
           changes_true = move_changes;
           entered = λ a. absurd (false≢true a);
+          change_said = λ _. (own_change, refl, here x s.said);
+          start_said = λ lead n e. absurd (no_start n e);
+          proposals_said = λ lead q x e. absurd (none_some x e);
           reason = λ v q e st. l.reason v q e (move_stood v q e st);
           acked = λ v j e h. l.acked v j e (ack_old g me x s.said v j e (λ u i y k. cc) h);
           named = λ n h. l.named n (new_old g me x s.said n (λ m k. cc) h);
@@ -388,6 +406,9 @@ module _ (g : Group) (sent : Sent) (me : ℕ) where
           state_true = ack_true (report_of s s.view [] s.prepared s.pre_prepared) l.state_true;
           changes_true = λ e h. ack_true e (l.changes_true e (ack_change e h));
           entered = l.entered;
+          change_said = λ above. let k = l.change_said above in (k.0, k.1, there own_ack _ s.said k.2);
+          start_said = λ lead n e. there own_ack _ s.said (l.start_said lead n e);
+          proposals_said = λ lead q t h o. there own_ack _ s.said (l.proposals_said lead q t h o);
           reason = λ v q e st. l.reason v q e (ack_stood v q e st);
           acked = ack_acked;
           named = λ n h. l.named n (new_old g me own_ack s.said n (λ m k. cc) h);
@@ -407,6 +428,7 @@ module _ (g : Group) (sent : Sent) (me : ℕ) where
       pub slot_new : (p : ℕ) (t : Slot) → slots p ≡ Some t → (s.low < p) × (t ≡ accepted t.digest) × Stood g me xs s.view p t.digest × Backs g sent (primary g s.view) s.view p t.digest
       pub in_view : new.view ≡ s.view
       pub grounds : HasGrounds g sent new
+      pub start_said : me ≡ primary g s.view → Contains xs (say.NewView new)
 
     module _ (t : Enters) where
       enter_split : (v q : ℕ) (e : List ℕ) → Stood g me (xs ++ s.said) v q e → ((v ≡ s.view) × Gives new.choice q e) ⊎ Stood g me s.said v q e
@@ -468,6 +490,9 @@ module _ (g : Group) (sent : Sent) (me : ℕ) where
             state_true = enter_true (report_of s s.view [] s.prepared s.pre_prepared) l.state_true;
             changes_true = λ e h. enter_true e (l.changes_true e (enter_change e h));
             entered = λ _ _. (new, refl, t.in_view, t.grounds, refl);
+            change_said = λ above. let k = l.change_said above in (k.0, k.1, Contains-append_right xs s.said _ k.2);
+            start_said = λ lead n e. Contains-append_left xs s.said _ (subst (λ y. Contains xs (say.NewView y)) (start_same new n e) (t.start_said lead));
+            proposals_said = λ lead q x h o. absurd (let r = (t.slot_new q x h).2 in let k = t.said_chosen r.0 r.1 s.view q x.digest r.2 in omega (arith, o, k.1.1));
             reason = λ v q e st. enter_reason v q e pos st;
             acked = λ v j e h. elim (Contains-append_cases xs s.said _ h) [ inl k ↦ absurd (t.said_ack v j e k) | inr k ↦ l.acked v j e k ];
             named = λ n h. elim (Contains-append_cases xs s.said _ h) [ inl k ↦ t.said_new n k | inr k ↦ l.named n k ];

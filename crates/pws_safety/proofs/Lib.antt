@@ -7,11 +7,13 @@ pub mod Keeping
 pub mod Behind
 pub mod Next
 pub mod Group
+pub mod Agreed
 pub mod FirstRun
 pub mod Reports
 pub mod SecondRun
 pub mod Ruled
 pub mod SecondVotes
 pub mod Forgetful
+pub mod Filled
 pub mod LowFloor
 pub mod Unwitnessed

@@ -1,8 +1,9 @@
 -- Runs with one more rule, step by step, and the short ones.
-use Rattle.std.proofs.Common.{ℕ, ◌≤◌, ◌≡◌, inl, inr, true, false, refl, sym, ap, subst, List, [], ◌∷◌, ◌++◌, ◌==◌, replicate, arith}
+use Rattle.std.proofs.Common.{ℕ, ◌≤◌, ◌≡◌, inl, inr, Bool, true, false, refl, sym, ap, subst, List, [], ◌∷◌, ◌++◌, ◌==◌, replicate, arith}
 use Rattle.std.specs.Prelude.{slice_index_or}
 use Rattle.std.proofs.lemmas.Bool.{false≢true, eqb-true}
 use Rattle.pws_base.specs.Counts.{count_below}
+use Rattle.pws_msg.specs.declared.changes.ViewChange.{ViewChange}
 use Rattle.pws_safety.specs.Replicas.{AtLeast}
 use Rattle.pws_safety.specs.Statement.{Statement, Prepare, Commit}
 use Rattle.pws_safety.specs.Statements.{Group, Sent, Told, IsCorrect, primary}
@@ -32,6 +33,11 @@ module _ (Rule : Group → Sent → ℕ → Core → Core → Type 0) (g : Group
       → ReachedWith Rule g (with_core cores i s) (said_by i xs ++ sent)
   steps cores sent i s xs r ci t says = step cores sent (said_by i xs ++ sent) i s r ci t (sends_next g cores sent i s xs (ruled_linked r) ci says)
 
+  -- where its state before is known by an equality
+  pub steps_from : (cores : ℕ → Core) (sent : Sent) (i : ℕ) (a s : Core) (xs : List Statement) → ReachedWith Rule g cores sent → IsCorrect g i → cores i ≡ a → Step g sent i a s → s.said ≡ xs ++ a.said
+      → ReachedWith Rule g (with_core cores i s) (said_by i xs ++ sent)
+  steps_from cores sent i a s xs r ci at t says = steps cores sent i s xs r ci (subst (λ y. Step g sent i y s) (sym at) t) (subst (λ (y : Core). s.said ≡ xs ++ y.said) (sym at) says)
+
   pub follows : (cores : ℕ → Core) (sent : Sent) (i : ℕ) (s : Core) (xs : List Statement) → ReachedWith Rule g cores sent → IsCorrect g i → Rule g sent i (cores i) s → s.said ≡ xs ++ (cores i).said
       → ReachedWith Rule g (with_core cores i s) (said_by i xs ++ sent)
   follows cores sent i s xs r ci t says = ruled cores sent (said_by i xs ++ sent) i s r ci t (sends_next g cores sent i s xs (ruled_linked r) ci says)
@@ -52,8 +58,11 @@ pub disagreement_of : (g : Group) (cores : ℕ → Core) (i j : ℕ) → HasComm
 disagreement_of g cores i j one other = record { one = i; other = j; place = 1; digest = example_digest; other_digest = other_digest; committed = one; other_committed = other; differ = digests_differ }
 
 -- a group whose primary of view 0 is compromised
+abbrev pub astray : (ViewChange → List ℕ) → (ViewChange → Bool) → Group
+astray digest_of occurs = record { f = 1; compromised = λ i. i == 0; digest_of = digest_of; occurs = occurs; backed = λ d. true }
+
 abbrev pub led_astray : Group
-led_astray = record { f = 1; compromised = λ i. i == 0; digest_of = λ c. []; occurs = λ c. false; backed = λ d. true }
+led_astray = astray (λ c. []) (λ c. false)
 
 pub astray_is_trusted : IsTrusted led_astray
 astray_is_trusted = record { sound = omega arith; no_collision = λ a b x y e. absurd (false≢true x) }

@@ -19,6 +19,9 @@ some_same a b e = cc
 pub none_some : (a : Slot) → ◌≡◌ {A = Option Slot} None (Some a) → ⊥
 none_some a e = cc
 
+pub no_start : (a : NewView) → ◌≡◌ {A = Option NewView} None (Some a) → ⊥
+no_start a e = cc
+
 slot_at : (t : ℕ → Option Slot) (p : ℕ) (s : Slot) → with_slot t p s p ≡ Some s
 slot_at t p s = cond-true (p == p) _ _ (eq-eqb p p refl)
 
@@ -77,7 +80,7 @@ module _ (g : Group) (me : ℕ) where
   stands_view (say.NewView n) v p d s = s.0
   stands_view (Ack u j e) v p d s = absurd s
 
-  -- x stands for d at p in v, for nothing else, and is neither COMMIT nor of a view change
+  -- x stands for d at p in v, for nothing else, and is neither COMMIT nor of a view change; the primary's is PRE_PREPARE
   pub record Pledge (x : Statement) (v p : ℕ) (d : List ℕ) : Type 0 where
     pub is_view : view_of x ≡ v
     pub stands : StandsBy g me x v p d
@@ -86,9 +89,10 @@ module _ (g : Group) (me : ℕ) where
     pub no_change : (c : ViewChange) → x ≡ say.ViewChange c → ⊥
     pub no_ack : (u j : ℕ) (e : List ℕ) → x ≡ Ack u j e → ⊥
     pub no_new : (n : NewView) → x ≡ say.NewView n → ⊥
+    pub proposes : me ≡ primary g v → x ≡ PrePrepare v p d
 
-  pub prepare_pledge : (v p : ℕ) (d : List ℕ) → Pledge (Prepare v p d) v p d
-  prepare_pledge v p d = record {
+  pub prepare_pledge : (v p : ℕ) (d : List ℕ) → (me ≡ primary g v → ⊥) → Pledge (Prepare v p d) v p d
+  prepare_pledge v p d other = record {
     is_view = refl;
     stands = (refl, refl, refl);
     only = λ u q e s. (sym s.0, sym s.1, sym s.2);
@@ -96,6 +100,7 @@ module _ (g : Group) (me : ℕ) where
     no_change = λ c h. cc;
     no_ack = λ u j e h. cc;
     no_new = λ n h. cc;
+    proposes = λ lead. absurd (other lead);
   }
 
   pub propose_pledge : (v p : ℕ) (d : List ℕ) → me ≡ primary g v → Pledge (PrePrepare v p d) v p d
@@ -107,6 +112,7 @@ module _ (g : Group) (me : ℕ) where
     no_change = λ c h. cc;
     no_ack = λ u j e h. cc;
     no_new = λ n h. cc;
+    proposes = λ _. refl;
   }
 
   pub commit_old : (x : Statement) (said : List Statement) (v p : ℕ) (d : List ℕ) → ((u q : ℕ) (e : List ℕ) → x ≡ Commit u q e → ⊥) → Contains (x ∷ said) (Commit v p d) → Contains said (Commit v p d)

@@ -1,11 +1,13 @@
 -- Rules that look as good, and lead to disagreement: each is added to those of a correct replica, and a run of a trusted
 -- group is shown in which two correct replicas commit two digests at one place. So each of the rules in its stead is
 -- needed.
-use Rattle.std.specs.Prelude.{ℕ, ◌≡◌, ◌-◌, ◌*◌, ◌<◌, ◌≤◌, true, false, List, [], ◌∷◌, Option, Some, map, length, nat_lt, IsTrue, ◌==◌}
+use Rattle.std.specs.Prelude.{ℕ, ◌≡◌, ◌+◌, ◌-◌, ◌*◌, ◌<◌, ◌≤◌, ◌⊎◌, true, false, List, [], ◌∷◌, Option, Some, map, length, nat_lt, IsTrue, ◌==◌}
 use Rattle.std.specs.List.{Contains, count_by, list_all}
 use Rattle.pws_base.specs.Shapes.{quorum_of}
 use Rattle.pws_msg.specs.declared.changes.Checkpoint.{Checkpoint}
 use Rattle.pws_msg.specs.declared.changes.Choice.{Choice}
+use Rattle.pws_msg.specs.declared.changes.QRow.{QRow}
+use Rattle.pws_msg.specs.declared.changes.Seen.{Seen}
 use Rattle.pws_msg.specs.declared.changes.NewView.{NewView}
 use Rattle.pws_change.specs.declared.heard.Heard.{Heard}
 use Rattle.pws_change.specs.Agreements.{Agrees, name_of}
@@ -15,7 +17,7 @@ use Rattle.pws_change.specs.Rising.{rises}
 use Rattle.pws_safety.specs.Replicas.{AtLeast}
 use Rattle.pws_safety.specs.Statement.{Statement, PrePrepare, Prepare, Commit}
 use Rattle.pws_safety.specs.Statement as say
-use Rattle.pws_safety.specs.Statements.{Group, Sent, Told, IsCorrect, size, primary}
+use Rattle.pws_safety.specs.Statements.{Group, Sent, Told, Gives, IsCorrect, size, primary}
 use Rattle.pws_safety.specs.Voters.{Slot, Core, new_core, accepted, prepared_slot, committed_slot, after_accept, after_prepare, after_commit, after_move, after_enter, AcceptsChosen, PreparesChosen, IsHeard, IsHad, Step}
 use Rattle.pws_safety.specs.Runs.{Sends, Repeats, IsTrusted, with_core}
 
@@ -85,14 +87,34 @@ pub data ForgetsSlots (g : Group) (sent : Sent) (me : ℕ) : Core → Core → T
       (s : Core) (view : ℕ) (checkpoints : List Checkpoint) → s.view < view
       → ForgetsSlots g sent me s (after_move s view checkpoints s.prepared s.pre_prepared)
 
--- a floor that is the checkpoint alone, and not the last chosen place
+-- its pre-prepared set has room for a digest at a place: each row that it has there has the digest, or fewer than 16
+abbrev pub HasRoom : Core → ℕ → List ℕ → Type 0
+HasRoom s place digest =
+    (row : QRow) → Contains s.pre_prepared row → row.place ≡ place
+    → (length row.digests < 16) ⊎ ((seen : Seen) × Contains row.digests seen × (seen.digest ≡ digest))
+
+-- of the chosen digests it accepts each that it can: whose place is one of the 32 above its low mark, and for which
+-- there is room
+abbrev pub AcceptsAllItCan : Core → NewView → (ℕ → Option Slot) → Type 0
+AcceptsAllItCan s new slots =
+    (place : ℕ) (digest : List ℕ) → Gives new.choice place digest → s.low < place → place ≤ s.low + 32
+    → HasRoom s place digest → slots place ≡ Some (accepted digest)
+
+-- a floor that is the checkpoint alone, and not the last chosen place, though each chosen digest is accepted that can be
 pub data CheckpointFloor (g : Group) (sent : Sent) (me : ℕ) : Core → Core → Type 0 where
+  offer :
+      (s : Core) (new : NewView) (heard : List Heard) (slots : ℕ → Option Slot) (last : ℕ) → s.active ≡ false
+      → me ≡ primary g s.view → new.view ≡ s.view
+      → Agrees g.f new heard
+      → ((h : Heard) → Contains heard h → (g.digest_of h.change ≡ h.digest) × IsHeard g sent s.view h.index h.change)
+      → AcceptsChosen s new slots last → AcceptsAllItCan s new slots
+      → CheckpointFloor g sent me s (record (after_enter s new slots last (say.NewView new ∷ [])) { floor = new.choice.place })
   enter :
       (s : Core) (new : NewView) (heard : List Heard) (slots : ℕ → Option Slot) (last : ℕ) (says : List Statement)
       → s.active ≡ false → (me ≡ primary g s.view → ⊥) → new.view ≡ s.view
       → Told g sent (primary g s.view) (say.NewView new)
       → Agrees g.f new heard → ((h : Heard) → Contains heard h → IsHad g sent s.view h)
-      → AcceptsChosen s new slots last → PreparesChosen s new slots says
+      → AcceptsChosen s new slots last → AcceptsAllItCan s new slots → PreparesChosen s slots says
       → CheckpointFloor g sent me s (record (after_enter s new slots last says) { floor = new.choice.place })
 
 -- a choice without witnesses: an entry is chosen by the first part of its condition alone
@@ -124,5 +146,5 @@ pub data ChoiceWithoutWitnesses (g : Group) (sent : Sent) (me : ℕ) : Core → 
       → s.active ≡ false → (me ≡ primary g s.view → ⊥) → new.view ≡ s.view
       → Told g sent (primary g s.view) (say.NewView new)
       → AgreesUnwitnessed g.f new heard → ((h : Heard) → Contains heard h → IsHad g sent s.view h)
-      → AcceptsChosen s new slots last → PreparesChosen s new slots says
+      → AcceptsChosen s new slots last → PreparesChosen s slots says
       → ChoiceWithoutWitnesses g sent me s (after_enter s new slots last says)

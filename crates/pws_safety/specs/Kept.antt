@@ -14,7 +14,7 @@ use Rattle.pws_change.specs.Agreements.{Agrees}
 use Rattle.pws_change.specs.Choices.{last_of}
 use Rattle.pws_change.specs.Valid.{IsValid}
 use Rattle.pws_safety.specs.Replicas.{AtLeast}
-use Rattle.pws_safety.specs.Statement.{Statement, Commit, Ack, view_of}
+use Rattle.pws_safety.specs.Statement.{Statement, PrePrepare, Commit, Ack, view_of}
 use Rattle.pws_safety.specs.Statement as say
 use Rattle.pws_safety.specs.Statements.{Group, Sent, Told, Gives, StandsBy, Backs, IsCorrect, size, primary}
 use Rattle.pws_safety.specs.Voters.{Slot, Core, report_of, IsHeard}
@@ -118,6 +118,14 @@ pub record Keeps (g : Group) (sent : Sent) (me : ℕ) (s : Core) : Type 0 where
       s.active ≡ true → 0 < s.view
       → (new : NewView) × (s.new_view ≡ Some new) × (new.view ≡ s.view) × HasGrounds g sent new
       × (s.floor ≡ last_of new.choice)
+  -- what it says again was said: in a view above 0 its view change for the view; and as the primary the NEW_VIEW by
+  -- which it entered, and PRE_PREPARE of each slot above its floor
+  pub change_said :
+      0 < s.view → (change : ViewChange) × (change.view ≡ s.view) × Contains s.said (say.ViewChange change)
+  pub start_said : me ≡ primary g s.view → (new : NewView) → s.new_view ≡ Some new → Contains s.said (say.NewView new)
+  pub proposals_said :
+      me ≡ primary g s.view → (place : ℕ) (slot : Slot) → s.slot place ≡ Some slot → s.floor < place
+      → Contains s.said (PrePrepare s.view place slot.digest)
   -- it has a reason for each digest for which it stands
   pub reason : (view place : ℕ) (digest : List ℕ) → Stood g me s.said view place digest → HasReason g sent view place digest
   -- it acknowledges, and names in a NEW_VIEW, only digests of view changes that it heard from the replica named

@@ -43,7 +43,7 @@ pub record Core : Type 0 where
   pub low : ℕ
   -- at or below the floor it accepts nothing more in this view: there the choice of the new view stands
   pub floor : ℕ
-  -- the highest place at which it accepted something in this view
+  -- the highest place at which it accepted something in this view, or 0
   pub last : ℕ
   pub slot : ℕ → Option Slot
   -- the latest digest that it prepared at a place in the views before, and the digests that it accepted
@@ -170,18 +170,19 @@ after_enter s new slots last says = record s {
 }
 
 -- as it enters a view it accepts of the chosen digests those whose places are above its low mark, or fewer, and
--- nothing else
-abbrev pub AcceptsChosen : Core → NewView → (ℕ → Option Slot) → ℕ → Type 0
-AcceptsChosen s new slots last =
-    (place : ℕ) (slot : Slot) → slots place ≡ Some slot
-    → (s.low < place) × (place ≤ last) × Gives new.choice place slot.digest × (slot ≡ accepted slot.digest)
+-- nothing else; `last` is then the highest of the places at which it accepted one, or 0
+pub record AcceptsChosen (s : Core) (new : NewView) (slots : ℕ → Option Slot) (last : ℕ) : Type 0 where
+  pub each :
+      (place : ℕ) (slot : Slot) → slots place ≡ Some slot
+      → (s.low < place) × (place ≤ last) × Gives new.choice place slot.digest × (slot ≡ accepted slot.digest)
+  pub highest : (last ≡ 0) ⊎ ((slot : Slot) × (slots last ≡ Some slot))
 
 -- a backup says PREPARE of each chosen digest that it accepts, and of nothing else
-pub record PreparesChosen (s : Core) (new : NewView) (slots : ℕ → Option Slot) (says : List Statement) : Type 0 where
+pub record PreparesChosen (s : Core) (slots : ℕ → Option Slot) (says : List Statement) : Type 0 where
   pub each : (place : ℕ) (slot : Slot) → slots place ≡ Some slot → Contains says (Prepare s.view place slot.digest)
   pub only :
       (x : Statement) → Contains says x
-      → (place : ℕ) × (digest : List ℕ) × (x ≡ Prepare s.view place digest) × Gives new.choice place digest
+      → (place : ℕ) × (slot : Slot) × (slots place ≡ Some slot) × (x ≡ Prepare s.view place slot.digest)
 
 -- a valid view change for the view, one of those that occur, that can be heard as the replica's
 pub record IsHeard (g : Group) (sent : Sent) (view index : ℕ) (change : ViewChange) : Type 0 where
@@ -256,5 +257,5 @@ pub data Step (g : Group) (sent : Sent) (me : ℕ) : Core → Core → Type 0 wh
       → s.active ≡ false → (me ≡ primary g s.view → ⊥) → new.view ≡ s.view
       → Told g sent (primary g s.view) (say.NewView new)
       → Agrees g.f new heard → ((h : Heard) → Contains heard h → IsHad g sent s.view h)
-      → AcceptsChosen s new slots last → PreparesChosen s new slots says
+      → AcceptsChosen s new slots last → PreparesChosen s slots says
       → Step g sent me s (after_enter s new slots last says)

@@ -3,8 +3,6 @@
 ghost use Rattle.pws_safety.specs.Replicas.{QuorumsMeet, QuorumMeetsWeak, WeakHasCorrect, SendersAreDistinct};
 ghost use Rattle.pws_safety.specs.Agreement.{FactsGiveAgreement, QuorumSettles, StepsKeep, RepeatsKeep, MoreIsKept, HadIsBehind, CommittedIsSettled, SlotsKeepTheChoice, KeptGivesFacts, RunsKeep, RunsAgree};
 
-use pws_change::laws::what_is_covered_is_kept;
-
 /// Any two quorums of a sound group share a correct replica; a quorum and any f + 1 replicas share one; and any f + 1
 /// replicas have a correct one among them.
 pub fn quorums_meet()
@@ -22,9 +20,7 @@ pub fn senders_are_distinct()
 /// place are one, and each digest for which a correct replica stands is that of a backed event.
 pub fn facts_give_agreement()
     ensures { FactsGiveAgreement }
-{
-    what_is_covered_is_kept();
-}
+{}
 
 /// COMMITs as heard from a quorum settle their digest.
 pub fn quorum_settles()
@@ -72,6 +68,4 @@ pub fn runs_keep()
 /// In each run agreement holds, through every list of view changes.
 pub fn runs_agree()
     ensures { RunsAgree }
-{
-    facts_give_agreement();
-}
+{}
