@@ -26,7 +26,7 @@ use Rattle.pws_safety.specs.Statements.{Group, Sent, Told, Gives, primary}
 use Rattle.pws_safety.specs.Voters.{Slot, Core, new_core, accepted, above, after_accept, after_prepare, after_commit, after_lower, after_move, after_enter, IsTrimmed, IsNoted, IsSeenBy, IsHeard, propose, accept, prepare, commit, lower, move}
 use Rattle.pws_safety.specs.Runs.{IsTrusted, with_core}
 use Rattle.pws_safety.specs.Witnesses.{example_digest, first_checkpoint, same_change}
-use Rattle.pws_safety.specs.Counterexamples.{ReachedWith, Misleads, CheckpointFloor, AcceptsAllItCan}
+use Rattle.pws_safety.specs.Counterexamples.{ReachedWith, Misleads, CheckpointFloor, CanAccept, AcceptsAllItCan}
 use Rattle.pws_safety.specs.Counterexamples as rule
 use Rattle.pws_safety.proofs.Members.{nowhere}
 use Rattle.pws_safety.proofs.Slots.{none_some, slot_here, each_slot, above_is}
@@ -101,7 +101,7 @@ gives_it : (d : List ℕ) → Gives (choice_of d) 33 d
 gives_it d = (omega arith, omega arith, refl)
 
 it_is_all : (s : Core) (new : NewView) (d : List ℕ) → new.choice ≡ choice_of d → AcceptsAllItCan s new (chosen_slot 33 d)
-it_is_all s new d same q e gives low within room =
+it_is_all s new d same q e gives can =
     let k : Gives (choice_of d) q e = subst (λ c. Gives c q e) same gives in
     let at : q ≡ 33 = omega (arith, k.0, k.1) in
     let is : d ≡ e = subst (λ y. chosen_at (choice_of d) y ≡ e) at k.2 in
@@ -226,6 +226,10 @@ other_agree = Commit 2 33 other_digest
 abbrev silent : Core
 silent = after_move new_core 1 (first_checkpoint ∷ []) [] []
 
+-- no place after the checkpoint is within its reach
+out_of_reach : (q : ℕ) (d : List ℕ) → 32 < q → CanAccept silent q d → ⊥
+out_of_reach q d after can = let k = can.within in omega (arith, after, k)
+
 abbrev leading : Core
 leading = record (after_enter silent first_new no_slots 0 (say.NewView first_new ∷ [])) { floor = first_new.choice.place }
 
@@ -326,7 +330,7 @@ module _ (slots : ℕ → Option Slot) (last : ℕ) (said : List Statement) (cor
       let c3 : ℕ → Core = with_core c2 1 leading in
       let t3 : Sent = (1, say.NewView first_new) ∷ t2 in
       let r3 : ReachedWith R g c3 t3 = follows R g c2 t2 1 leading (say.NewView first_new ∷ []) r2 (omega arith, refl)
-      (rule.CheckpointFloor.offer silent first_new first_heard no_slots 0 refl refl refl first_agrees (first_is_heard t2 (1, omega arith, refl) (0, omega arith, refl)) (accepts_none silent first_new) (λ q e gives a b room. absurd (omega (arith, gives.0, b)))) refl in
+      (rule.CheckpointFloor.offer silent first_new first_heard no_slots 0 refl refl refl first_agrees (first_is_heard t2 (1, omega arith, refl) (0, omega arith, refl)) (accepts_none silent first_new) (λ q e gives can. absurd (out_of_reach q e gives.0 can))) refl in
       let c4 : ℕ → Core = with_core c3 1 raised in
       let r4 : ReachedWith R g c4 t3 = steps R g c3 t3 1 raised [] r3 (omega arith, refl) (lower leading 32 [] [] (omega arith) (none_trimmed leading refl)) refl in
       steps R g c4 t3 1 proposed (proposal ∷ []) r4 (omega arith, refl) (propose raised 33 other_digest refl refl refl (omega arith) refl) refl

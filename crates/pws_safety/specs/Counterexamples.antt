@@ -87,18 +87,20 @@ pub data ForgetsSlots (g : Group) (sent : Sent) (me : ℕ) : Core → Core → T
       (s : Core) (view : ℕ) (checkpoints : List Checkpoint) → s.view < view
       → ForgetsSlots g sent me s (after_move s view checkpoints s.prepared s.pre_prepared)
 
--- its pre-prepared set has room for a digest at a place: each row that it has there has the digest, or fewer than 16
-abbrev pub HasRoom : Core → ℕ → List ℕ → Type 0
-HasRoom s place digest =
-    (row : QRow) → Contains s.pre_prepared row → row.place ≡ place
-    → (length row.digests < 16) ⊎ ((seen : Seen) × Contains row.digests seen × (seen.digest ≡ digest))
+-- as it enters a view it can accept a digest at a place that is one of the 32 above its low mark, where its pre-prepared
+-- set has room: a row there has the digest, or fewer than 16
+pub record CanAccept (s : Core) (place : ℕ) (digest : List ℕ) : Type 0 where
+  pub above : s.low < place
+  pub within : place ≤ s.low + 32
+  pub room :
+      (row : QRow) → Contains s.pre_prepared row → row.place ≡ place
+      → (length row.digests < 16) ⊎ ((seen : Seen) × Contains row.digests seen × (seen.digest ≡ digest))
 
--- of the chosen digests it accepts each that it can: whose place is one of the 32 above its low mark, and for which
--- there is room
+-- it accepts each chosen digest that it can
 abbrev pub AcceptsAllItCan : Core → NewView → (ℕ → Option Slot) → Type 0
 AcceptsAllItCan s new slots =
-    (place : ℕ) (digest : List ℕ) → Gives new.choice place digest → s.low < place → place ≤ s.low + 32
-    → HasRoom s place digest → slots place ≡ Some (accepted digest)
+    (place : ℕ) (digest : List ℕ) → Gives new.choice place digest → CanAccept s place digest
+    → slots place ≡ Some (accepted digest)
 
 -- a floor that is the checkpoint alone, and not the last chosen place, though each chosen digest is accepted that can be
 pub data CheckpointFloor (g : Group) (sent : Sent) (me : ℕ) : Core → Core → Type 0 where
