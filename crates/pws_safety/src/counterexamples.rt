@@ -17,7 +17,7 @@ pub fn forgets_slots_misleads()
     ensures { Misleads ForgetsSlots }
 {}
 
-/// A floor that is the checkpoint alone lets a compromised primary replace what was chosen.
+/// A floor that is the checkpoint alone lets a primary replace what was chosen where it couldn't accept it.
 pub fn checkpoint_floor_misleads()
     ensures { Misleads CheckpointFloor }
 {}
