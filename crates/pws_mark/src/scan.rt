@@ -3,7 +3,7 @@
 ghost use Rattle.std.specs.Prelude.{◌≡◌, ◌+◌, ◌≤◌, length, encode_utf8, None, IfOk};
 ghost use Rattle.pws_mark.specs.Noted.{finds};
 ghost use Rattle.pws_mark.specs.Scan.{next, start, is_whole};
-ghost use Rattle.pws_mark.specs.Scanning.{Goes, noted_where, Steps};
+ghost use Rattle.pws_mark.specs.Scanning.{Goes, Notes, Steps};
 
 use crate::counts::Place;
 use crate::least::Least;
