@@ -44,6 +44,7 @@ pub mod FollowsFaults
 pub mod FollowsEvents
 pub mod Followed
 pub mod SeenNames
+pub mod SeenSets
 pub mod Outers
 pub mod Spelled
 pub mod Standing
