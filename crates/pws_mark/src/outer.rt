@@ -1,6 +1,6 @@
 //! What is around a token: the open elements, and what was read.
 
-ghost use Rattle.std.specs.Prelude.{◌≡◌, ◌&&◌, ◌++◌, [], ◌∷◌, Some, None, OnOk, IfOk};
+ghost use Rattle.std.specs.Prelude.{◌≡◌, ◌&&◌, nat_le, length, ◌++◌, [], ◌∷◌, Some, None, OnOk, IfOk};
 ghost use Rattle.pws_mark.specs.Least.{lowered};
 ghost use Rattle.pws_mark.specs.Noted.{tag_finds, start_finds, hollow_finds, end_finds};
 ghost use Rattle.pws_mark.specs.Meaning.{char_text};
@@ -73,6 +73,13 @@ impl Outer {
         ensures { result ≡ (is_empty self.now.opens && self.now.behind) }
     {
         self.opens.is_empty() && self.behind
+    }
+
+    /// Whether a tag that begins here is refused: 64 elements are open.
+    pub fn is_deepest(&self) -> bool
+        ensures { result ≡ nat_le 64 (length self.now.opens) }
+    {
+        self.opens.len() >= 64
     }
 
     /// What was read.
