@@ -136,7 +136,11 @@ impl Outer {
     }
 
     /// A character of content, or a reference to no character, at its place; it is text, as these characters.
-    fn take(&mut self, at: usize, c: Option<char>, text: Option<char>) -> Result<(), Memory>
+    ///
+    /// # Errors
+    ///
+    /// `Memory` only.
+    pub fn take(&mut self, at: usize, c: Option<char>, text: Option<char>) -> Result<(), Memory>
         ensures { OnOk result (self.new ≡ taken self.old at c (char_text text)) }
     {
         if self.opens.is_word() {

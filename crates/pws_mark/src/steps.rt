@@ -1,20 +1,23 @@
 //! What a character outside of tags does.
 
-ghost use Rattle.std.specs.Prelude.{◌≡◌, ◌&&◌, ◌==◌, ◌∷◌, [], if◌then◌else◌, false, option_map, Some, None, IfOk};
-ghost use Rattle.pws_mark.specs.Least.{lowered};
+ghost use Rattle.std.specs.Prelude.{◌≡◌, ◌&&◌, ◌==◌, ◌∷◌, [], ◌-◌, if◌then◌else◌, false, option_map, Some, None, OnOk, IfOk};
 ghost use Rattle.pws_mark.specs.Meaning.{char_text};
 ghost use Rattle.pws_mark.specs.Noted.{depth_finds, reference_finds};
-ghost use Rattle.pws_mark.specs.Scan.{start_step, head_opened_step, in_declaration, declaring_step, tag_begins, opened_step, bang_step, comment_step, section_word_step, text_bytes, reference_step, region};
-ghost use Rattle.pws_mark.specs.Scanning.{Notes};
-ghost use Rattle.pws_mark.specs.Tokens.{is_text_char};
+ghost use Rattle.pws_mark.specs.Scan.{start_step, head_opened_step, in_declaration, declaring_step, tag_begins, opened_step, bang_step, comment_step, section_word_step, text_bytes, content_step, either, in_text, reference_step, brackets_taken, section_step, region};
+ghost use Rattle.pws_mark.specs.Scanning.{Goes, Notes};
+ghost use Rattle.pws_mark.specs.States.{taken};
+ghost use Rattle.pws_mark.specs.Tokens.{is_text_char, is_white};
 ghost use Rattle.pws_mark.specs.declared.modes.Mode.TheVariants as mode;
+ghost use Rattle.pws_mark.specs.declared.modes.ReferenceStep.TheVariants as stepped;
+ghost use Rattle.pws_mark.specs.declared.modes.Region.TheVariants as region_is;
 
 use crate::counts::{Marks, Place};
 use crate::declaring::{declaring_step, has_at, is_white};
 use crate::errors::MarkKind;
 use crate::least::Least;
-use crate::modes::{Declaring, Mode, ReadTag, Region};
+use crate::modes::{Declaring, Mode, ReadTag, Reference, ReferenceStep, Region};
 use crate::outer::Outer;
+use crate::references::reference_step;
 use pws_base::lists::Sequence;
 use pws_base::memory::Memory;
 use pws_tree::characters::{is_name_start, is_xml_char};
@@ -220,4 +223,164 @@ fn is_text_char(c: char) -> bool
     ensures { result ≡ is_text_char c }
 {
     is_xml_char(c) && c != '<' && c != '&'
+}
+
+/// In content inside of the element, behind so many of `]]`.
+fn text_step(
+    outer: &mut Outer,
+    at: Place,
+    brackets: Marks,
+    after_return: bool,
+    c: char,
+) -> Result<Option<Mode>, Memory>
+    ensures { IfOk result (λ m. Goes (content_step region_is.Inside outer.old at brackets after_return c) m outer.new) }
+{
+    if is_text_char(c) && !(brackets.get() == 2 && c == '>') {
+        outer.take(at.get(), Some(c), kept_char(after_return, c))?;
+        return Ok(Some(Mode::Content(brackets.after(']', c), c == '\r')));
+    }
+    if c == '<' {
+        return Ok(Some(Mode::Opened(at)));
+    }
+    if c == '&' {
+        return Ok(Some(Mode::TextReference(at, Reference::Begun)));
+    }
+    Ok(None)
+}
+
+/// Outside of the element.
+fn around_step(at: Place, c: char) -> Option<Mode>
+    ensures { result ≡ (if is_white c then Some (mode.Content 0 false) else if c == 60 then Some (mode.Opened at) else None) }
+{
+    if is_white(c) {
+        return Some(in_content());
+    }
+    if c == '<' {
+        return Some(Mode::Opened(at));
+    }
+    None
+}
+
+/// In content, or outside of the element, behind so many of `]]`.
+///
+/// # Errors
+///
+/// `Memory` only.
+pub fn content_step(
+    outer: &mut Outer,
+    at: Place,
+    brackets: Marks,
+    after_return: bool,
+    c: char,
+) -> Result<Option<Mode>, Memory>
+    ensures { IfOk result (λ m. Goes (content_step (region outer.old) outer.old at brackets after_return c) m outer.new) }
+{
+    match outer.region() {
+        Region::Inside => text_step(outer, at, brackets, after_return, c),
+        Region::Before | Region::Behind => Ok(around_step(at, c)),
+    }
+}
+
+/// A reference in content is complete, whose `&` stands at this place, and which stands for this character or for none.
+fn text_reference(
+    outer: &mut Outer,
+    least: &mut Least,
+    at: Place,
+    c: Option<char>,
+) -> Result<Option<Mode>, Memory>
+    ensures goes { IfOk result (λ m. Goes (in_text outer.old at (stepped.Done c)) m outer.new) }
+    ensures notes { IfOk result (λ m. Notes m least.old (reference_finds at (Some (stepped.Done c))) least.new) }
+{
+    outer.take(at.get(), c, c)?;
+    least.note_if(c.is_none(), MarkKind::Entity, at.get());
+    Ok(Some(in_content()))
+}
+
+/// In a reference in content, whose `&` stands at this place.
+///
+/// # Errors
+///
+/// `Memory` only.
+#[tactic(auto, unfolding(crate::specs::Least::lowered))]
+pub fn text_reference_step(
+    alloc: Global,
+    outer: &mut Outer,
+    least: &mut Least,
+    at: Place,
+    reference: Reference,
+    c: char,
+) -> Result<Option<Mode>, Memory>
+    ensures goes { IfOk result (λ m. Goes (either (reference_step reference c) (in_text outer.old at)) m outer.new) }
+    ensures notes { IfOk result (λ m. Notes m least.old (reference_finds at (reference_step reference c)) least.new) }
+{
+    match reference_step(alloc, reference, c)? {
+        Some(ReferenceStep::More(reference)) => Ok(Some(Mode::TextReference(at, reference))),
+        Some(ReferenceStep::Done(c)) => text_reference(outer, least, at, c),
+        None => Ok(None),
+    }
+}
+
+/// A `]` of a section, so many bytes before this place, is text.
+fn take_bracket(outer: &mut Outer, at: Place, before: usize) -> Result<(), Memory>
+    ensures { OnOk result (outer.new ≡ taken outer.old (at - before) (Some 93) (93 ∷ [])) }
+{
+    outer.take(at.before(before).get(), Some(']'), Some(']'))
+}
+
+/// So many of `]]` that stand before this place are text, as the section goes on.
+fn take_brackets(outer: &mut Outer, at: Place, brackets: Marks) -> Result<(), Memory>
+    ensures { OnOk result (outer.new ≡ brackets_taken outer.old at brackets) }
+{
+    if brackets.get() == 2 {
+        take_bracket(outer, at, 2)?;
+    }
+    if brackets.get() != 0 {
+        take_bracket(outer, at, 1)?;
+    }
+    Ok(())
+}
+
+/// At a `]` in a CDATA section.
+fn bracket_step(
+    outer: &mut Outer,
+    at: Place,
+    brackets: Marks,
+    after_return: bool,
+) -> Result<Option<Mode>, Memory>
+    ensures { IfOk result (λ m. Goes (section_step outer.old at brackets after_return 93) m outer.new) }
+{
+    if brackets.get() == 2 {
+        take_bracket(outer, at, 2)?;
+        return Ok(Some(Mode::Section(brackets, false)));
+    }
+    Ok(Some(Mode::Section(brackets.more(), after_return)))
+}
+
+/// In a CDATA section, behind so many of `]]`.
+///
+/// # Errors
+///
+/// `Memory` only.
+pub fn section_step(
+    outer: &mut Outer,
+    at: Place,
+    brackets: Marks,
+    after_return: bool,
+    c: char,
+) -> Result<Option<Mode>, Memory>
+    ensures { IfOk result (λ m. Goes (section_step outer.old at brackets after_return c) m outer.new) }
+{
+    if c == ']' {
+        return bracket_step(outer, at, brackets, after_return);
+    }
+    if brackets.get() == 2 && c == '>' {
+        return Ok(Some(in_content()));
+    }
+    if is_xml_char(c) {
+        take_brackets(outer, at, brackets)?;
+        let kept = kept_char(brackets.get() == 0 && after_return, c);
+        outer.take(at.get(), Some(c), kept)?;
+        return Ok(Some(Mode::Section(Marks::none(), c == '\r')));
+    }
+    Ok(None)
 }
