@@ -38,6 +38,7 @@ mod steps;
 mod tags;
 #[cfg(test)]
 mod tests;
+mod words;
 pub mod writing;
 
 ghost use Rattle.pws_mark.specs.Examples.{WorkedTexts};
