@@ -35,9 +35,11 @@ mod scopes;
 mod seen;
 mod spaces;
 mod steps;
+mod tag_steps;
 mod tags;
 #[cfg(test)]
 mod tests;
+mod values;
 mod words;
 pub mod writing;
 

@@ -1,12 +1,13 @@
 //! What is around a token: the open elements, and what was read.
 
-ghost use Rattle.std.specs.Prelude.{◌≡◌, ◌&&◌, nat_le, length, ◌++◌, [], ◌∷◌, Some, None, OnOk, IfOk};
+ghost use Rattle.std.specs.Prelude.{◌≡◌, ◌&&◌, nat_le, ◌<◌, length, ◌++◌, [], ◌∷◌, Some, None, OnOk, IfOk};
 ghost use Rattle.pws_mark.specs.Least.{lowered};
 ghost use Rattle.pws_mark.specs.Noted.{tag_finds, start_finds, hollow_finds, end_finds, word_finds};
 ghost use Rattle.pws_mark.specs.Meaning.{char_text, name_of};
 ghost use Rattle.pws_mark.specs.Scan.{region, outside};
-ghost use Rattle.pws_mark.specs.Scopes.{Begins, IsOpened};
+ghost use Rattle.pws_mark.specs.Scopes.{Begins, IsOpened, name_has, name_ends};
 ghost use Rattle.pws_mark.specs.Scanning.{ended_in};
+ghost use Rattle.std.specs.Bool.{OnTrue};
 ghost use Rattle.std.specs.String.{string_bytes};
 ghost use Rattle.pws_mark.specs.declared.modes.Event.TheVariants as event;
 ghost use Rattle.pws_mark.specs.States.{bound_at, is_empty, spoiled, read_bound, flushed, started, hollowed, taken, qualified_event};
@@ -85,6 +86,21 @@ impl Outer {
         ensures { result ≡ nat_le 64 (length self.now.opens) }
     {
         self.opens.len() >= 64
+    }
+
+    /// Whether this character stands at this place of the innermost element's name.
+    pub fn has_at(&self, place: usize, c: char) -> bool
+        ensures value { result ≡ name_has self.now.opens place c }
+        ensures within { OnTrue result (place < usize.MAX) }
+    {
+        self.opens.has_at(place, c)
+    }
+
+    /// Whether the innermost element's name has so many characters.
+    pub fn name_ends(&self, place: usize) -> bool
+        ensures { result ≡ name_ends self.now.opens place }
+    {
+        self.opens.name_ends(place)
     }
 
     /// What was read.
