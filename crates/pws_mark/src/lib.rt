@@ -40,6 +40,7 @@ mod tags;
 #[cfg(test)]
 mod tests;
 mod values;
+mod words;
 pub mod writing;
 
 ghost use Rattle.pws_mark.specs.Examples.{WorkedTexts};
