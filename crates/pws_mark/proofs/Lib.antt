@@ -45,6 +45,7 @@ pub mod FollowsEvents
 pub mod Followed
 pub mod SeenNames
 pub mod SeenSets
+pub mod Prefixes
 pub mod Outers
 pub mod Spelled
 pub mod Standing

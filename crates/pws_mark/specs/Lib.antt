@@ -15,6 +15,7 @@ pub mod Meaning
 pub mod Noted
 pub mod Outcome
 pub mod Places
+pub mod Prefixes
 pub mod ReaderLaws
 pub mod Reading
 pub mod Scan

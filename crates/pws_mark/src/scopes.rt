@@ -1,61 +1,111 @@
 //! The open elements, and what the prefixes are bound to.
 
-ghost use Rattle.std.specs.Prelude.{◌≡◌, ◌<◌, ◌++◌, [], ◌∷◌, length, option_map, not, is_none, Some, None, OnOk, IfOk};
+ghost use Rattle.std.specs.Prelude.{◌≡◌, ℕ, ◌<◌, List, if◌then◌else◌, ◌++◌, [], ◌∷◌, length, slice_get, option_map, not, is_none, Some, None, OnOk, IfOk};
 ghost use Rattle.pws_mark.specs.Bindings.{space_at, is_bound, element_name, attribute_name, outermost};
 ghost use Rattle.std.specs.Bool.{OnTrue};
 ghost use Rattle.std.specs.Option.{is_some};
 ghost use Rattle.pws_mark.specs.States.{bound_at, spoiled, is_empty, with_char};
+ghost use Rattle.std.specs.Str.{bytes_eq};
+ghost use Rattle.pws_mark.specs.Prefixes.{value_at, FindsFirst};
 ghost use Rattle.pws_mark.specs.Scopes.{opened, word_at, kept, Pops, inside_of, name_has, name_ends};
 
 use crate::declaring::has_at;
+use crate::names::letters_of;
 use crate::spaces::XML_SPACE;
 use pws_base::lists::Sequence;
 use pws_base::memory::Memory;
 use pws_tree::texts::Text;
 use std::alloc::Global;
+use std::collections::BTreeMap;
 use std::marker::Model;
 
 /// The prefixes that a tag declares, each with its namespace, which is missing where it is unknown.
+///
+/// The places find the first declaration of a prefix in few steps.
 #[derive(Drop)]
 pub struct Scope {
     items: Sequence<(Sequence<char>, Option<Text>)>,
+    places: BTreeMap<Vec<char>, usize>,
 }
 
 impl Model for Scope {
     ghost use Rattle.pws_mark.specs.Bindings.{Bindings};
+    ghost use Rattle.pws_mark.specs.Prefixes.{FindsFirst};
 
     ghost Value = { Bindings };
 
     ghost view = { λ s. s.items };
+
+    ghost invariant = { λ s. FindsFirst s.places s.items };
+}
+
+/// Puts a value at a prefix.
+fn put<T: Drop>(
+    alloc: Global,
+    values: &mut BTreeMap<Vec<char>, T>,
+    prefix: &[char],
+    value: T,
+) -> Result<(), Memory>
+    ensures { OnOk result ((other : List ℕ) → value_at values.new other ≡ (if bytes_eq prefix.now other then Some value else value_at values.old other)) }
+{
+    let key = letters_of(alloc, prefix)?.into_vec();
+    values.insert(key, value)?;
+    Ok(())
+}
+
+/// The places of the first declarations of prefixes.
+fn places_of(
+    alloc: Global,
+    items: &[(Sequence<char>, Option<Text>)],
+) -> Result<BTreeMap<Vec<char>, usize>, Memory>
+    ensures { IfOk result (λ places. FindsFirst places items.now) }
+{
+    let mut places = BTreeMap::new(alloc);
+    let mut left = items.len();
+    while left > 0 {
+        left -= 1;
+        put(alloc, &mut places, items[left].0.as_slice(), left)?;
+    }
+    Ok(places)
+}
+
+/// The namespace of the declaration at a place.
+fn space_of<'a>(
+    items: &'a [(Sequence<char>, Option<Text>)],
+    place: usize,
+) -> Option<&'a Option<Text>>
+    ensures { option_map (λ b. b.now) result ≡ option_map (λ b. b.1) (slice_get items.now place) }
+{
+    match items.get(place) {
+        Some(item) => Some(&item.1),
+        None => None,
+    }
 }
 
 impl Scope {
-    /// No prefixes.
-    pub fn new(alloc: Global) -> Scope
-        ensures { result ≡ [] }
+    /// These prefixes, in the order of their declarations.
+    ///
+    /// # Errors
+    ///
+    /// `Memory` only.
+    pub fn new(
+        alloc: Global,
+        items: Sequence<(Sequence<char>, Option<Text>)>,
+    ) -> Result<Scope, Memory>
+        ensures { IfOk result (λ s. s ≡ items) }
     {
-        Scope {
-            items: Sequence::new(alloc),
-        }
-    }
-
-    /// One more prefix.
-    pub fn push(&mut self, prefix: Sequence<char>, space: Option<Text>) -> Result<(), Memory>
-        ensures { OnOk result (self.new ≡ self.old ++ (prefix, space) ∷ []) }
-    {
-        self.items.push((prefix, space))
+        let places = places_of(alloc, items.as_slice())?;
+        Ok(Scope { items, places })
     }
 
     /// The namespace of a prefix, by its first declaration here.
     pub fn space_at(&self, prefix: &[char]) -> Option<&Option<Text>>
         ensures { option_map (λ b. b.now) result ≡ space_at self.now prefix.now }
     {
-        for item in self.items.as_slice() {
-            if item.0.as_slice() == prefix {
-                return Some(&item.1);
-            }
+        match self.places.get(prefix) {
+            Some(place) => space_of(self.items.as_slice(), *place),
+            None => None,
         }
-        None
     }
 }
 

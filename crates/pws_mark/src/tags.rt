@@ -48,16 +48,18 @@ fn is_fixed(prefix: &[char]) -> bool
     prefix == ['x', 'm', 'l'].as_slice() || prefix == ['x', 'm', 'l', 'n', 's'].as_slice()
 }
 
-/// Notes what an attribute declares.
-fn declare(alloc: Global, scope: &mut Scope, attribute: &ReadAttribute) -> Result<(), Memory>
+/// Adds what an attribute declares.
+fn declare(
+    alloc: Global,
+    scope: &mut Sequence<(Sequence<char>, Option<Text>)>,
+    attribute: &ReadAttribute,
+) -> Result<(), Memory>
     ensures { OnOk result (scope.new ≡ scope.old ++ own_bound (attribute.now ∷ [])) }
 {
     if let Some(prefix) = prefix_declared(attribute.name.as_slice()) {
         if !is_fixed(prefix) {
-            scope.push(
-                letters_of(alloc, prefix)?,
-                copy_space(alloc, &attribute.value)?,
-            )?;
+            let space = copy_space(alloc, &attribute.value)?;
+            scope.push((letters_of(alloc, prefix)?, space))?;
         }
     }
     Ok(())
@@ -71,11 +73,11 @@ fn declare(alloc: Global, scope: &mut Scope, attribute: &ReadAttribute) -> Resul
 pub fn scope_of(alloc: Global, attributes: &[ReadAttribute]) -> Result<Scope, Memory>
     ensures { IfOk result (λ s. s ≡ own_bound attributes.now) }
 {
-    let mut scope = Scope::new(alloc);
+    let mut scope = Sequence::new(alloc);
     for attribute in attributes {
         declare(alloc, &mut scope, attribute)?;
     }
-    Ok(scope)
+    Scope::new(alloc, scope)
 }
 
 /// The value, or an empty one.
