@@ -46,6 +46,7 @@ pub mod Followed
 pub mod SeenNames
 pub mod SeenSets
 pub mod Prefixes
+pub mod Levels
 pub mod Outers
 pub mod Spelled
 pub mod Standing

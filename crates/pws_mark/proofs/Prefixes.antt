@@ -1,11 +1,12 @@
 -- What is found by prefixes.
 use Rattle.std.proofs.Common.{◌≡◌, ℕ, zero, suc, ◌+◌, ◌-◌, ◌<◌, ◌≤◌, Bool, true, false, cond, if◌then◌else◌, List, [], ◌∷◌, ◌++◌, length, drop, take, get_or, Option, Some, None, refl, ap, sym, ◌∙◌, arith}
 use Rattle.std.specs.Prelude.{option_map, slice_get, Vec}
-use Rattle.std.specs.BTreeMap.{BTreeMap, Updates, get_by, is_at}
+use Rattle.std.specs.BTreeMap.{BTreeMap, UpdatesBy, get_by}
 use Rattle.std.specs.Cmp.Lexicographic.{slice_cmp}
-use Rattle.std.specs.Map.{KeepsOthers, IsKeyTest, AreApart}
-use Rattle.std.specs.Ordering.{nat_cmp, is_eq, eq_by_cmp}
+use Rattle.std.specs.Map.{KeepsOthers}
+use Rattle.std.specs.Ordering.{nat_cmp, is_eq}
 use Rattle.std.specs.Str.{bytes_eq}
+use Rattle.std.proofs.lemmas.Cmp.{nat_list_eq_equiv}
 use Rattle.std.proofs.lemmas.Map.Text.{is_eq-slice_cmp}
 use Rattle.std.proofs.lemmas.Slice.Eq.{bytes_eq-Decides}
 use Rattle.pws_mark.specs.Bindings.{Bindings, space_at}
@@ -15,24 +16,20 @@ use Rattle.pws_mark.proofs.Walks.{drop_from_item, drop_all}
 same_is : (xs ys : List ℕ) → is_eq (slice_cmp nat_cmp xs ys) ≡ true → xs ≡ ys
 same_is xs ys h = (bytes_eq-Decides xs ys).0 (sym (is_eq-slice_cmp xs ys) ∙ h)
 
--- a value was put at a key
-pub put_at : {A X : Type 0} (old new : BTreeMap (Vec ℕ A) X) (key : Vec ℕ A) (value : X) → Updates (λ x y. slice_cmp nat_cmp x.items y.items) old new key (Some value) → (other : List ℕ) → value_at new other ≡ (if bytes_eq key.items other then Some value else value_at old other)
+-- what a map has at a prefix, after a change at one
+pub update_at : {A X : Type 0} (old new : BTreeMap (Vec ℕ A) X) (prefix : List ℕ) (w : Option X) → UpdatesBy (λ x y. slice_cmp nat_cmp x.items y.items) (λ k. slice_cmp nat_cmp prefix k.items) old new w → (other : List ℕ) → value_at new other ≡ (if bytes_eq prefix other then w else value_at old other)
 unfolding KeepsOthers
-put_at {A} {X} old new key value h other = by (bytes_eq key.items other) refl
+update_at {A} {X} old new prefix w h other = by (bytes_eq prefix other) refl
   where
-    by : (t : Bool) → bytes_eq key.items other ≡ t → value_at new other ≡ (if t then Some value else value_at old other)
-    by true e = ap (λ p. get_by (λ k. slice_cmp nat_cmp p k.items) new) (sym ((bytes_eq-Decides key.items other).0 e)) ∙ h.1
+    by : (t : Bool) → bytes_eq prefix other ≡ t → value_at new other ≡ (if t then w else value_at old other)
+    by true e = ap (λ p. get_by (λ k. slice_cmp nat_cmp p k.items) new) (sym ((bytes_eq-Decides prefix other).0 e)) ∙ h.1
     by false e =
         h.3 (λ k. is_eq (slice_cmp nat_cmp other k.items))
         (λ x y g. ap (λ p. is_eq (slice_cmp nat_cmp p y.items)) (same_is other x.items g))
-        (λ k g. ap (λ p. is_eq (slice_cmp nat_cmp other p)) (sym (same_is key.items k.items g)) ∙ (is_eq-slice_cmp other key.items ∙ apart e))
+        (λ k g. ap (λ p. is_eq (slice_cmp nat_cmp other p)) (sym (same_is prefix k.items g)) ∙ (is_eq-slice_cmp other prefix ∙ apart e))
       where
-        apart : bytes_eq key.items other ≡ false → bytes_eq other key.items ≡ false
-        apart g = sides (bytes_eq other key.items) refl
-          where
-            sides : (s : Bool) → bytes_eq other key.items ≡ s → s ≡ false
-            sides false i = refl
-            sides true i = absurd (let same : other ≡ key.items = (bytes_eq-Decides other key.items).0 i in let back : bytes_eq key.items other ≡ true = (bytes_eq-Decides key.items other).1 (sym same) in cc)
+        apart : bytes_eq prefix other ≡ false → bytes_eq other prefix ≡ false
+        apart g = nat_list_eq_equiv.symm other prefix ∙ g
 
 head_place : (b : List ℕ × Option (List ℕ)) (bs : Bindings) (n : ℕ) (prefix : List ℕ) → bytes_eq b.0 prefix ≡ true → first_place (b ∷ bs) n prefix ≡ Some n
 head_place b bs n prefix e = rw e refl
@@ -40,10 +37,10 @@ head_place b bs n prefix e = rw e refl
 tail_place : (b : List ℕ × Option (List ℕ)) (bs : Bindings) (n : ℕ) (prefix : List ℕ) → bytes_eq b.0 prefix ≡ false → first_place (b ∷ bs) n prefix ≡ first_place bs (n + 1) prefix
 tail_place b bs n prefix e = rw e refl
 
-head_space : (b : List ℕ × Option (List ℕ)) (bs : Bindings) (prefix : List ℕ) → bytes_eq b.0 prefix ≡ true → space_at (b ∷ bs) prefix ≡ Some b.1
+pub head_space : (b : List ℕ × Option (List ℕ)) (bs : Bindings) (prefix : List ℕ) → bytes_eq b.0 prefix ≡ true → space_at (b ∷ bs) prefix ≡ Some b.1
 head_space b bs prefix e = rw e refl
 
-tail_space : (b : List ℕ × Option (List ℕ)) (bs : Bindings) (prefix : List ℕ) → bytes_eq b.0 prefix ≡ false → space_at (b ∷ bs) prefix ≡ space_at bs prefix
+pub tail_space : (b : List ℕ × Option (List ℕ)) (bs : Bindings) (prefix : List ℕ) → bytes_eq b.0 prefix ≡ false → space_at (b ∷ bs) prefix ≡ space_at bs prefix
 tail_space b bs prefix e = rw e refl
 
 -- the place of a first declaration is that of what is found

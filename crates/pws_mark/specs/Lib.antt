@@ -11,6 +11,7 @@ pub mod Faults
 pub mod Grammar
 pub mod LawfulMeanings
 pub mod Least
+pub mod Levels
 pub mod Meaning
 pub mod Noted
 pub mod Outcome
