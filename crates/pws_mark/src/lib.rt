@@ -32,6 +32,7 @@ mod resolving;
 mod scopes;
 mod seen;
 mod spaces;
+mod stopping;
 mod tags;
 #[cfg(test)]
 mod tests;
