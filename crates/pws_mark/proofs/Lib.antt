@@ -82,3 +82,4 @@ pub mod OutcomeStops
 pub mod OutcomeTells
 pub mod Alike
 pub mod SharedBytes
+pub mod BeyondChars
