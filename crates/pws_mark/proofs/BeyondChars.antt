@@ -1,5 +1,5 @@
 -- Which characters beyond ASCII the reader takes.
-use Rattle.std.proofs.Common.{◌≡◌, ◌⊎◌, inl, inr, ℕ, zero, suc, ◌+◌, ◌-◌, ◌<◌, ◌≤◌, nat_le, nat_lt, Bool, true, false, not, cond, ◌&&◌, ◌||◌, List, [], ◌∷◌, ◌++◌, length, refl, ap, subst, sym, ◌∙◌, arith, Option, Some, None, codes}
+use Rattle.std.proofs.Common.{◌≡◌, ℕ, zero, suc, ◌+◌, ◌<◌, ◌≤◌, nat_le, nat_lt, Bool, true, false, not, cond, ◌&&◌, ◌||◌, List, [], ◌∷◌, length, refl, sym, ◌∙◌, arith, Option, Some, None, codes}
 use Rattle.std.specs.Prelude.{◌==◌, if◌then◌else◌, option_map, slice_get, unwrap_or, encode_utf8}
 use Rattle.std.specs.Option.{is_some}
 use Rattle.std.specs.List.{list_all}
@@ -7,8 +7,8 @@ use Rattle.std.specs.Char.{to_ascii_lowercase}
 use Rattle.std.proofs.lemmas.Bool.{and_parts, ne_eqb, eqb-true, eqb-false, eq-eqb, lt-leb, ltb-true}
 use Rattle.pws_tree.specs.Characters.{is_xml_char, is_name_start, is_name_char}
 use Rattle.pws_mark.specs.Digits.{is_digit, is_hexadecimal}
-use Rattle.pws_mark.specs.Scan.{step, run, start, next, region, stays, either, opened_step, bang_step, content_step, start_step, head_opened_step, comment_step, section_word_step, section_word, section_step, tag_name_step, in_tag_step, tag_step, attribute_name_step, before_equals_step, after_equals_step, value_step, declaring_step, gap_step, in_declaration, has_at, part_word, literal_word, as_compared, reference_step, in_text, in_value, end_name_step, end_gap_step}
-use Rattle.pws_mark.specs.States.{Open, Outer, State}
+use Rattle.pws_mark.specs.Scan.{next, region, stays, either, opened_step, bang_step, content_step, start_step, head_opened_step, comment_step, section_word_step, section_word, section_step, tag_name_step, in_tag_step, tag_step, attribute_name_step, before_equals_step, after_equals_step, value_step, declaring_step, gap_step, in_declaration, has_at, part_word, literal_word, as_compared, reference_step, in_text, in_value, end_name_step, end_gap_step}
+use Rattle.pws_mark.specs.States.{Open, Outer}
 use Rattle.pws_mark.specs.Tokens.{is_white, is_quote, is_text_char, is_value_char}
 use Rattle.pws_mark.specs.Stopping.{is_among, beyond_name, beyond_reference, beyond_content, beyond_opened, beyond_one, beyond_ascii, name_char_at, BeyondTells}
 use Rattle.pws_mark.specs.declared.modes.Declaring.{Declaring}
@@ -28,7 +28,6 @@ use Rattle.pws_mark.specs.declared.modes.ReadName.{ReadName}
 use Rattle.pws_mark.specs.declared.modes.ReadValue.{ReadValue}
 use Rattle.pws_mark.specs.declared.modes.Mode.{Mode}
 use Rattle.pws_mark.specs.declared.modes.Mode.TheVariants as mode
-use Rattle.pws_mark.specs.declared.stopping.BeyondAscii.{BeyondAscii}
 use Rattle.pws_mark.specs.declared.stopping.BeyondAscii.TheVariants as beyond
 use Rattle.pws_mark.proofs.OutcomeKnown.{runs_are_plain}
 use Rattle.pws_mark.proofs.OutcomeSteps.{PlainMode}

@@ -1,11 +1,11 @@
 //! Where the reader stops at a character: what is refused there, and how many of its bytes begin one that is taken.
 
-ghost use Rattle.std.specs.Prelude.{◌≡◌, ℕ, ◌-◌, ◌<◌, ◌≤◌, ◌++◌, ◌&&◌, not, List, if◌then◌else◌, ◌==◌, None, Some, codes};
+ghost use Rattle.std.specs.Prelude.{◌≡◌, ℕ, ◌≤◌, ◌&&◌, List, None, codes};
 ghost use Rattle.pws_mark.specs.Least.{lowered};
 ghost use Rattle.pws_mark.specs.Noted.{if_found};
 ghost use Rattle.pws_mark.specs.Outcome.{is_bang, question_before, question_finds, stop_finds};
 ghost use Rattle.pws_mark.specs.Places.{is_at};
-ghost use Rattle.pws_mark.specs.ReaderLaws.{Shares, is_early_in, is_before};
+ghost use Rattle.pws_mark.specs.ReaderLaws.{Shares, is_early_in};
 ghost use Rattle.pws_mark.specs.Scan.{is_within, run, start, step};
 ghost use Rattle.pws_mark.specs.States.{State};
 ghost use Rattle.pws_mark.specs.declared.errors.MarkKind.TheVariants as kind;
@@ -202,11 +202,7 @@ fn note_question(least: &mut Least, bytes: &[u8], at: usize, before: Option<usiz
 {
     if let Some(before) = before {
         let place = at.saturating_sub(before);
-        least.note_if(
-            is_at(bytes, place, b"<?"),
-            MarkKind::Instruction,
-            place,
-        );
+        least.note_if(is_at(bytes, place, b"<?"), MarkKind::Instruction, place);
     }
 }
 
