@@ -1,10 +1,11 @@
 //! The open elements, and what the prefixes are bound to.
 
-ghost use Rattle.std.specs.Prelude.{◌≡◌, ◌<◌, ◌++◌, [], ◌∷◌, length, option_map, not, is_none, Some, None, OnOk, IfOk};
+ghost use Rattle.std.specs.Prelude.{◌≡◌, ◌<◌, ◌++◌, [], ◌∷◌, length, option_map, not, is_none, slice_get, Some, None, OnOk, IfOk};
 ghost use Rattle.pws_mark.specs.Bindings.{space_at, is_bound, element_name, attribute_name, outermost};
 ghost use Rattle.std.specs.Bool.{OnTrue};
 ghost use Rattle.std.specs.Option.{is_some};
 ghost use Rattle.pws_mark.specs.States.{bound_at, spoiled, is_empty, with_char};
+ghost use Rattle.pws_mark.specs.Stopping.{name_char_at};
 ghost use Rattle.pws_mark.specs.Scopes.{opened, word_at, kept, Pops, inside_of, name_has, name_ends};
 
 use crate::declaring::has_at;
@@ -252,6 +253,25 @@ impl Opens {
         match self.items.last() {
             Some(element) => element.name.len() == place,
             None => false,
+        }
+    }
+}
+
+/// The character at a place of a name.
+fn letter_at(name: &[char], place: usize) -> Option<char>
+    ensures { result ≡ slice_get name.now place }
+{
+    name.get(place).copied()
+}
+
+impl Opens {
+    /// The character at a place of the innermost element's name.
+    pub fn name_char_at(&self, place: usize) -> Option<char>
+        ensures { result ≡ name_char_at self.now place }
+    {
+        match self.items.last() {
+            Some(element) => letter_at(element.name.as_slice(), place),
+            None => None,
         }
     }
 }
