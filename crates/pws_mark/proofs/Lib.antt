@@ -32,6 +32,7 @@ pub mod TakesPieces
 pub mod TakesSections
 pub mod TakesValues
 pub mod TakesTags
+pub mod TagSteps
 pub mod Scalars
 pub mod Letters
 pub mod Opened
@@ -80,6 +81,7 @@ pub mod OutcomeQuestions
 pub mod OutcomeSteps
 pub mod OutcomeStops
 pub mod OutcomeTells
+pub mod Stepped
 pub mod Alike
 pub mod SharedBytes
 pub mod BeyondChars

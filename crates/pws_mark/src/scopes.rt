@@ -1,7 +1,8 @@
 //! The open elements, and what the prefixes are bound to.
 
-ghost use Rattle.std.specs.Prelude.{◌≡◌, ◌++◌, [], ◌∷◌, length, option_map, not, is_none, slice_get, Some, None, OnOk, IfOk};
+ghost use Rattle.std.specs.Prelude.{◌≡◌, ◌<◌, ◌++◌, [], ◌∷◌, length, option_map, not, is_none, slice_get, Some, None, OnOk, IfOk};
 ghost use Rattle.pws_mark.specs.Bindings.{space_at, is_bound, element_name, attribute_name, outermost};
+ghost use Rattle.std.specs.Bool.{OnTrue};
 ghost use Rattle.std.specs.Option.{is_some};
 ghost use Rattle.pws_mark.specs.States.{bound_at, spoiled, is_empty, with_char};
 ghost use Rattle.pws_mark.specs.Stopping.{name_char_at};
@@ -236,7 +237,8 @@ impl Opens {
 
     /// Whether this character stands at this place of the innermost element's name.
     pub fn has_at(&self, place: usize, c: char) -> bool
-        ensures { result ≡ name_has self.now place c }
+        ensures value { result ≡ name_has self.now place c }
+        ensures within { OnTrue result (place < usize.MAX) }
     {
         match self.items.last() {
             Some(element) => has_at(element.name.as_slice(), place, c),
