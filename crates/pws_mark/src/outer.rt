@@ -254,7 +254,13 @@ impl Outer {
         ensures least { OnOk result (least.new ≡ lowered least.old (start_finds self.old tag)) }
     {
         let begun = begin(alloc, least, &self.opens, &tag)?;
-        add_open(alloc, &mut self.events, &mut self.text, begun.name, begun.attrs)?;
+        add_open(
+            alloc,
+            &mut self.events,
+            &mut self.text,
+            begun.name,
+            begun.attrs,
+        )?;
         let element = open_element(alloc, tag, begun.scope, begun.is_word);
         open_in(&mut self.opens, element)
     }
@@ -276,7 +282,13 @@ impl Outer {
     {
         let begun = begin(alloc, least, &self.opens, &tag)?;
         least.note_if(begun.is_word, MarkKind::Syntax, tag.at.get());
-        add_open(alloc, &mut self.events, &mut self.text, begun.name, begun.attrs)?;
+        add_open(
+            alloc,
+            &mut self.events,
+            &mut self.text,
+            begun.name,
+            begun.attrs,
+        )?;
         self.events.push(Event::Close)?;
         self.behind = self.opens.is_empty();
         self.opens.spoil()
