@@ -85,3 +85,7 @@ pub mod OutcomeSteps
 pub mod OutcomeStops
 pub mod OutcomeTells
 pub mod Stepped
+pub mod Alike
+pub mod SharedBytes
+pub mod BeyondChars
+pub mod Stopped

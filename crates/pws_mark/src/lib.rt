@@ -35,6 +35,7 @@ mod scopes;
 mod seen;
 mod spaces;
 mod steps;
+mod stopping;
 mod tag_steps;
 mod tags;
 #[cfg(test)]

@@ -6,10 +6,12 @@ ghost use Rattle.pws_mark.specs.Noted.{tag_finds, start_finds, hollow_finds, end
 ghost use Rattle.pws_mark.specs.Meaning.{char_text, name_of};
 ghost use Rattle.pws_mark.specs.Scan.{region, outside};
 ghost use Rattle.pws_mark.specs.Scopes.{Begins, IsOpened, name_has, name_ends};
+ghost use Rattle.pws_mark.specs.Stopping.{name_char_at};
 ghost use Rattle.pws_mark.specs.Scanning.{ended_in};
 ghost use Rattle.std.specs.Bool.{OnTrue};
 ghost use Rattle.std.specs.String.{string_bytes};
 ghost use Rattle.pws_mark.specs.declared.modes.Event.TheVariants as event;
+ghost use Rattle.pws_mark.specs.Stopping.{name_char_at};
 ghost use Rattle.pws_mark.specs.States.{bound_at, is_empty, spoiled, read_bound, flushed, started, hollowed, taken, qualified_event};
 
 use crate::errors::MarkKind;
@@ -101,6 +103,13 @@ impl Outer {
         ensures { result ≡ name_ends self.now.opens place }
     {
         self.opens.name_ends(place)
+    }
+
+    /// The character at a place of the innermost element's name.
+    pub fn name_char_at(&self, place: usize) -> Option<char>
+        ensures { result ≡ name_char_at self.now.opens place }
+    {
+        self.opens.name_char_at(place)
     }
 
     /// What was read.
@@ -253,7 +262,13 @@ impl Outer {
         ensures least { OnOk result (least.new ≡ lowered least.old (start_finds self.old tag)) }
     {
         let begun = begin(alloc, least, &self.opens, &tag)?;
-        add_open(alloc, &mut self.events, &mut self.text, begun.name, begun.attrs)?;
+        add_open(
+            alloc,
+            &mut self.events,
+            &mut self.text,
+            begun.name,
+            begun.attrs,
+        )?;
         let element = open_element(alloc, tag, begun.scope, begun.is_word);
         open_in(&mut self.opens, element)
     }
@@ -275,7 +290,13 @@ impl Outer {
     {
         let begun = begin(alloc, least, &self.opens, &tag)?;
         least.note_if(begun.is_word, MarkKind::Syntax, tag.at.get());
-        add_open(alloc, &mut self.events, &mut self.text, begun.name, begun.attrs)?;
+        add_open(
+            alloc,
+            &mut self.events,
+            &mut self.text,
+            begun.name,
+            begun.attrs,
+        )?;
         self.events.push(Event::Close)?;
         self.behind = self.opens.is_empty();
         self.opens.spoil()

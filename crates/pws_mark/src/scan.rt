@@ -4,6 +4,7 @@ ghost use Rattle.std.specs.Prelude.{◌≡◌, ◌+◌, ◌≤◌, length, encod
 ghost use Rattle.pws_mark.specs.Noted.{finds};
 ghost use Rattle.pws_mark.specs.Scan.{next, start, is_whole};
 ghost use Rattle.pws_mark.specs.Scanning.{Goes, Notes, Steps};
+ghost use Rattle.pws_mark.specs.Stopping.{StandsAt};
 
 use crate::counts::Place;
 use crate::errors::MarkError;
@@ -11,9 +12,10 @@ use crate::least::Least;
 use crate::modes::{Event, Mode};
 use crate::outer::Outer;
 use crate::steps::{
-    bang_step, begun_step, comment_step, content_step, dash_step, declaration_step, head_begun_step,
-    section_step, section_word_step, start_step, text_reference_step,
+    bang_step, begun_step, comment_step, content_step, dash_step, declaration_step,
+    head_begun_step, section_step, section_word_step, start_step, text_reference_step,
 };
+use crate::stopping::Stand;
 use crate::tag_steps::{
     after_equals_step, attribute_name_step, before_equals_step, end_gap_step, end_name_step,
     in_tag_step, slash_step, tag_name_step, value_reference_step, value_step,
@@ -112,7 +114,14 @@ impl Scan {
         ensures { IfOk result (λ taken. Steps self.old c taken self.new) }
     {
         let mode = mem::replace(&mut self.mode, Mode::Bang);
-        let next = next(self.alloc, &mut self.outer, &mut self.least, self.at, mode, c)?;
+        let next = next(
+            self.alloc,
+            &mut self.outer,
+            &mut self.least,
+            self.at,
+            mode,
+            c,
+        )?;
         match next {
             Some(mode) => {
                 self.mode = mode;
@@ -121,6 +130,13 @@ impl Scan {
             }
             None => Ok(false),
         }
+    }
+
+    /// What a stop needs of where the reader is.
+    pub fn stand(&self) -> Stand
+        ensures { StandsAt result self.now.state }
+    {
+        Stand::of(&self.mode, &self.outer)
     }
 
     /// How many bytes were read.

@@ -8,6 +8,7 @@ ghost use Rattle.pws_mark.specs.States.{bound_at, spoiled, is_empty, with_char};
 ghost use Rattle.std.specs.Str.{bytes_eq};
 ghost use Rattle.pws_mark.specs.Levels.{levels_at, declared_at, without_last, last_of};
 ghost use Rattle.pws_mark.specs.Prefixes.{value_at, FindsFirst};
+ghost use Rattle.pws_mark.specs.Stopping.{name_char_at};
 ghost use Rattle.pws_mark.specs.Scopes.{opened, word_at, kept, Pops, inside_of, name_has, name_ends};
 
 use crate::declaring::has_at;
@@ -446,6 +447,25 @@ impl Opens {
         match self.items.last() {
             Some(element) => element.name.len() == place,
             None => false,
+        }
+    }
+}
+
+/// The character at a place of a name.
+fn letter_at(name: &[char], place: usize) -> Option<char>
+    ensures { result ≡ slice_get name.now place }
+{
+    name.get(place).copied()
+}
+
+impl Opens {
+    /// The character at a place of the innermost element's name.
+    pub fn name_char_at(&self, place: usize) -> Option<char>
+        ensures { result ≡ name_char_at self.now place }
+    {
+        match self.items.last() {
+            Some(element) => letter_at(element.name.as_slice(), place),
+            None => None,
         }
     }
 }
