@@ -32,6 +32,7 @@ pub mod TakesPieces
 pub mod TakesSections
 pub mod TakesValues
 pub mod TakesTags
+pub mod TagSteps
 pub mod Scalars
 pub mod Letters
 pub mod Opened
@@ -43,6 +44,9 @@ pub mod FollowsFaults
 pub mod FollowsEvents
 pub mod Followed
 pub mod SeenNames
+pub mod SeenSets
+pub mod Prefixes
+pub mod Levels
 pub mod Outers
 pub mod Spelled
 pub mod Standing
@@ -80,3 +84,8 @@ pub mod OutcomeQuestions
 pub mod OutcomeSteps
 pub mod OutcomeStops
 pub mod OutcomeTells
+pub mod Stepped
+pub mod Alike
+pub mod SharedBytes
+pub mod BeyondChars
+pub mod Stopped

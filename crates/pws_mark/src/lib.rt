@@ -19,6 +19,7 @@
 //! for that tree, and no other tree has it. Nothing stands on this layer yet; the layer of envelopes will.
 #![tactic(auto)]
 
+mod counts;
 mod declaring;
 pub mod errors;
 pub mod laws;
@@ -29,12 +30,18 @@ mod outer;
 mod reader_laws;
 mod references;
 mod resolving;
+mod scan;
 mod scopes;
 mod seen;
 mod spaces;
+mod steps;
+mod stopping;
+mod tag_steps;
 mod tags;
 #[cfg(test)]
 mod tests;
+mod values;
+mod words;
 pub mod writing;
 
 ghost use Rattle.pws_mark.specs.Examples.{WorkedTexts};
