@@ -80,3 +80,4 @@ pub mod OutcomeQuestions
 pub mod OutcomeSteps
 pub mod OutcomeStops
 pub mod OutcomeTells
+pub mod Built

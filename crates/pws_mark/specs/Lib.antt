@@ -8,6 +8,7 @@ pub mod Digits
 pub mod Documents
 pub mod Examples
 pub mod Faults
+pub mod Frames
 pub mod Grammar
 pub mod LawfulMeanings
 pub mod Least

@@ -19,6 +19,7 @@
 //! for that tree, and no other tree has it. Nothing stands on this layer yet; the layer of envelopes will.
 #![tactic(auto)]
 
+mod building;
 mod declaring;
 pub mod errors;
 pub mod laws;
