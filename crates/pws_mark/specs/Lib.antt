@@ -19,6 +19,7 @@ pub mod Places
 pub mod ReaderLaws
 pub mod Reading
 pub mod Scan
+pub mod Scanning
 pub mod Scopes
 pub mod Seen
 pub mod Spelling

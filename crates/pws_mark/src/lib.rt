@@ -20,6 +20,7 @@
 #![tactic(auto)]
 
 mod building;
+mod counts;
 mod declaring;
 pub mod errors;
 pub mod laws;
@@ -30,9 +31,11 @@ mod outer;
 mod reader_laws;
 mod references;
 mod resolving;
+mod scan;
 mod scopes;
 mod seen;
 mod spaces;
+mod steps;
 mod tags;
 #[cfg(test)]
 mod tests;

@@ -1,5 +1,6 @@
 //! Where in a text a reader is, and what it keeps of what it read.
 
+use crate::counts::{Marks, Place};
 use pws_base::lists::Sequence;
 use pws_tree::texts::{Attr, Name, Text};
 
@@ -77,14 +78,14 @@ pub enum Declaring {
 #[derive(Drop)]
 pub struct ReadAttribute {
     pub name: Sequence<char>,
-    pub at: usize,
+    pub at: Place,
     pub value: Option<Text>,
 }
 
 /// What was read of a tag, with the place of its `<`.
 #[derive(Drop)]
 pub struct ReadTag {
-    pub at: usize,
+    pub at: Place,
     pub name: Sequence<char>,
     pub attributes: Sequence<ReadAttribute>,
 }
@@ -92,7 +93,7 @@ pub struct ReadTag {
 /// What was read of the name of an attribute, with its place.
 #[derive(Drop)]
 pub struct ReadName {
-    pub at: usize,
+    pub at: Place,
     pub name: Sequence<char>,
 }
 
@@ -110,25 +111,25 @@ pub enum Mode {
     /// At the start of the text; whether a byte order mark may come.
     Start(bool),
     /// Behind a `<` at the start, and its place.
-    HeadOpened(usize),
+    HeadOpened(Place),
     /// In the XML declaration.
     Declaring(Declaring),
     /// In content, or outside of the element: how many of `]]` stand before, and whether a CR does.
-    Content(u8, bool),
+    Content(Marks, bool),
     /// In a reference in content, and the place of its `&`.
-    TextReference(usize, Reference),
+    TextReference(Place, Reference),
     /// Behind a `<`, and its place.
-    Opened(usize),
+    Opened(Place),
     /// Behind `<!`.
     Bang,
     /// Behind `<!-`.
     Dash,
     /// In a comment: how many of `--` stand before.
-    Comment(u8),
+    Comment(Marks),
     /// Behind `<![` and so many characters of `CDATA[`.
     SectionWord(u8),
     /// In a CDATA section: how many of `]]` stand before, and whether a CR stands before these.
-    Section(u8, bool),
+    Section(Marks, bool),
     /// In the name of a tag, and whether the next character has to begin a part between colons.
     TagName(ReadTag, bool),
     /// In a tag behind its name; whether white space stands before.
@@ -144,7 +145,7 @@ pub enum Mode {
     /// In the value of an attribute.
     Value(ReadTag, ReadName, ReadValue),
     /// In a reference in the value of an attribute, and the place of its `&`.
-    ValueReference(ReadTag, ReadName, ReadValue, usize, Reference),
+    ValueReference(ReadTag, ReadName, ReadValue, Place, Reference),
     /// In an end tag: so many characters of the name were read.
     EndName(usize),
     /// In an end tag, in the white space behind its name.

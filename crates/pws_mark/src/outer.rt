@@ -1,12 +1,12 @@
 //! What is around a token: the open elements, and what was read.
 
-ghost use Rattle.std.specs.Prelude.{◌≡◌, ◌<◌, ◌++◌, [], ◌∷◌, Some, None, OnOk, IfOk};
+ghost use Rattle.std.specs.Prelude.{◌≡◌, ◌&&◌, nat_le, length, ◌++◌, [], ◌∷◌, Some, None, OnOk, IfOk};
 ghost use Rattle.pws_mark.specs.Least.{lowered};
 ghost use Rattle.pws_mark.specs.Noted.{tag_finds, start_finds, hollow_finds, end_finds};
 ghost use Rattle.pws_mark.specs.Meaning.{char_text};
 ghost use Rattle.pws_mark.specs.Scan.{region, outside};
 ghost use Rattle.pws_mark.specs.Scopes.{Begins};
-ghost use Rattle.pws_mark.specs.States.{bound_at, read_bound, flushed, started, hollowed, taken};
+ghost use Rattle.pws_mark.specs.States.{bound_at, is_empty, read_bound, flushed, started, hollowed, taken};
 
 use crate::least::Least;
 use crate::modes::{Event, ReadTag, Region};
@@ -67,6 +67,28 @@ impl Outer {
         }
         Region::Before
     }
+
+    /// Whether the root is closed.
+    pub fn is_closed(&self) -> bool
+        ensures { result ≡ (is_empty self.now.opens && self.now.behind) }
+    {
+        self.opens.is_empty() && self.behind
+    }
+
+    /// Whether a tag that begins here is refused: 64 elements are open.
+    pub fn is_deepest(&self) -> bool
+        ensures { result ≡ nat_le 64 (length self.now.opens) }
+    {
+        self.opens.len() >= 64
+    }
+
+    /// What was read.
+    pub fn into_events(self) -> Sequence<Event>
+        ensures { result ≡ self.events }
+    {
+        let Outer { events, .. } = self;
+        events
+    }
 }
 
 /// What a complete tag begins.
@@ -81,7 +103,6 @@ struct Begun {
 /// What a complete tag begins among these open elements; what is refused in it is noted.
 #[tactic(auto, unfolding(crate::specs::States::read_bound, crate::specs::Meaning::name_of))]
 fn begin(alloc: Global, least: &mut Least, opens: &Opens, tag: &ReadTag) -> Result<Begun, Memory>
-    requires { tag.now.at < 32768 }
     ensures begun { IfOk result (λ b. Begins b tag.now opens.now) }
     ensures least { OnOk result (least.new ≡ lowered least.old (tag_finds (read_bound tag.now.attributes (bound_at opens.now)) tag.now)) }
 {
@@ -115,7 +136,11 @@ impl Outer {
     }
 
     /// A character of content, or a reference to no character, at its place; it is text, as these characters.
-    fn take(&mut self, at: usize, c: Option<char>, text: Option<char>) -> Result<(), Memory>
+    ///
+    /// # Errors
+    ///
+    /// `Memory` only.
+    pub fn take(&mut self, at: usize, c: Option<char>, text: Option<char>) -> Result<(), Memory>
         ensures { OnOk result (self.new ≡ taken self.old at c (char_text text)) }
     {
         if self.opens.is_word() {

@@ -203,8 +203,8 @@ fn note_attribute(
 {
     let name = attribute.name.as_slice();
     let bound = inside.read_name(alloc, name)?;
-    least.note_if(is_wrong(inside, attribute), MarkKind::Prefix, attribute.at);
-    least.note_if(seen.has(name, &bound), MarkKind::Twice, attribute.at);
+    least.note_if(is_wrong(inside, attribute), MarkKind::Prefix, attribute.at.get());
+    least.note_if(seen.has(name, &bound), MarkKind::Twice, attribute.at.get());
     seen.push(alloc, name, bound)
 }
 
@@ -226,11 +226,10 @@ fn note_attributes(
 
 /// Notes a wrong name of a complete tag.
 fn note_name(least: &mut Least, inside: &Inside, tag: &ReadTag)
-    requires { tag.now.at < 32768 }
     ensures { least.new ≡ lowered least.old (if_found (is_wrong_name inside.now tag.now.name) kind.Prefix (tag.now.at + 1)) }
 {
     let wrong = inside.is_wrong_name(tag.name.as_slice());
-    least.note_if(wrong, MarkKind::Prefix, tag.at + 1);
+    least.note_if(wrong, MarkKind::Prefix, tag.at.get() + 1);
 }
 
 /// Notes what is refused in a complete tag.
@@ -244,7 +243,6 @@ pub fn note_tag(
     inside: &Inside,
     tag: &ReadTag,
 ) -> Result<(), Memory>
-    requires { tag.now.at < 32768 }
     ensures { OnOk result (least.new ≡ lowered least.old (tag_finds inside.now tag.now)) }
 {
     note_name(least, inside, tag);
