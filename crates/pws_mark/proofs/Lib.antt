@@ -81,3 +81,5 @@ pub mod OutcomeSteps
 pub mod OutcomeStops
 pub mod OutcomeTells
 pub mod Built
+pub mod Alike
+pub mod SharedBytes

@@ -24,6 +24,7 @@ pub mod Scopes
 pub mod Seen
 pub mod Spelling
 pub mod States
+pub mod Stopping
 pub mod Texts
 pub mod TokenLaws
 pub mod Tokens

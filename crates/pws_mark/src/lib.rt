@@ -35,7 +35,11 @@ mod scan;
 mod scopes;
 mod seen;
 mod spaces;
+<<<<<<< HEAD
 mod steps;
+=======
+mod stopping;
+>>>>>>> 718191cf284a81a6a64a14f86b39705485836c0a
 mod tags;
 #[cfg(test)]
 mod tests;

@@ -7,6 +7,7 @@ ghost use Rattle.pws_mark.specs.Meaning.{char_text};
 ghost use Rattle.pws_mark.specs.Scan.{region, outside};
 ghost use Rattle.pws_mark.specs.Scopes.{Begins};
 ghost use Rattle.pws_mark.specs.States.{bound_at, is_empty, read_bound, flushed, started, hollowed, taken};
+ghost use Rattle.pws_mark.specs.Stopping.{name_char_at};
 
 use crate::least::Least;
 use crate::modes::{Event, ReadTag, Region};
@@ -154,5 +155,14 @@ impl Outer {
             self.text.push(c)?;
         }
         Ok(())
+    }
+}
+
+impl Outer {
+    /// The character at a place of the innermost element's name.
+    pub fn name_char_at(&self, place: usize) -> Option<char>
+        ensures { result ≡ name_char_at self.now.opens place }
+    {
+        self.opens.name_char_at(place)
     }
 }

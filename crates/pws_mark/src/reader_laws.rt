@@ -2,6 +2,7 @@
 
 ghost use Rattle.pws_mark.specs.Outcome.{EndsBuild, EndsMean, EndsTell, LeastTells, StopsTell};
 ghost use Rattle.pws_mark.specs.ReaderLaws.{DocumentsAreFollowed, PlacesCount, RunsArePlaced, RunsBegin, WritesSpell};
+ghost use Rattle.pws_mark.specs.Stopping.{BeyondTells, SharedTells};
 ghost use Rattle.pws_mark.specs.TokenLaws.{CommentsAreTaken, EndsAreTaken, StartsAreTaken, HollowsAreTaken, PiecesAreTaken, SectionsAreTaken, HeadsAreTaken};
 
 /// The characters of a document spell it.
@@ -87,4 +88,14 @@ fn ends_tell()
 /// What refuses a text in which the reader stops.
 fn stops_tell()
     ensures { StopsTell }
+{}
+
+/// Which characters beyond ASCII the reader takes.
+fn beyond_tells()
+    ensures { BeyondTells }
+{}
+
+/// How many bytes of a character that it doesn't take begin one that it takes.
+fn shared_tells()
+    ensures { SharedTells }
 {}

@@ -4,6 +4,7 @@ ghost use Rattle.std.specs.Prelude.{◌≡◌, ◌++◌, [], ◌∷◌, length, 
 ghost use Rattle.pws_mark.specs.Bindings.{space_at, is_bound, element_name, attribute_name, outermost};
 ghost use Rattle.std.specs.Option.{is_some};
 ghost use Rattle.pws_mark.specs.States.{bound_at, spoiled, is_empty, with_char};
+ghost use Rattle.pws_mark.specs.Stopping.{name_char_at};
 ghost use Rattle.pws_mark.specs.Scopes.{opened, word_at, kept, Pops, inside_of, name_has, name_ends};
 
 use crate::declaring::has_at;
@@ -250,6 +251,18 @@ impl Opens {
         match self.items.last() {
             Some(element) => element.name.len() == place,
             None => false,
+        }
+    }
+}
+
+impl Opens {
+    /// The character at a place of the innermost element's name.
+    pub fn name_char_at(&self, place: usize) -> Option<char>
+        ensures { result ≡ name_char_at self.now place }
+    {
+        match self.items.last() {
+            Some(element) => element.name.as_slice().get(place).copied(),
+            None => None,
         }
     }
 }
