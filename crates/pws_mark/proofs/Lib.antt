@@ -83,3 +83,4 @@ pub mod OutcomeTells
 pub mod Built
 pub mod Alike
 pub mod SharedBytes
+pub mod TextsRead

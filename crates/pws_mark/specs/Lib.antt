@@ -25,6 +25,7 @@ pub mod Seen
 pub mod Spelling
 pub mod States
 pub mod Stopping
+pub mod Taken
 pub mod Texts
 pub mod TokenLaws
 pub mod Tokens

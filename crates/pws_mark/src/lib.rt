@@ -29,17 +29,15 @@ pub mod modes;
 mod names;
 mod outer;
 mod reader_laws;
+pub mod reading;
 mod references;
 mod resolving;
 mod scan;
 mod scopes;
 mod seen;
 mod spaces;
-<<<<<<< HEAD
 mod steps;
-=======
 mod stopping;
->>>>>>> 718191cf284a81a6a64a14f86b39705485836c0a
 mod tags;
 #[cfg(test)]
 mod tests;

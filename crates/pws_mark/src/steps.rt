@@ -72,12 +72,7 @@ fn tag_begins(alloc: Global, at: Place, c: char) -> Result<Option<Mode>, Memory>
 }
 
 /// Behind a `<` that stands at this place.
-fn opened_step(
-    alloc: Global,
-    region: Region,
-    at: Place,
-    c: char,
-) -> Result<Option<Mode>, Memory>
+fn opened_step(alloc: Global, region: Region, at: Place, c: char) -> Result<Option<Mode>, Memory>
     ensures { IfOk result (λ m. m ≡ opened_step region at c) }
 {
     if region != Region::Behind && is_name_start(c) {

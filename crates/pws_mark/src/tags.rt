@@ -203,7 +203,11 @@ fn note_attribute(
 {
     let name = attribute.name.as_slice();
     let bound = inside.read_name(alloc, name)?;
-    least.note_if(is_wrong(inside, attribute), MarkKind::Prefix, attribute.at.get());
+    least.note_if(
+        is_wrong(inside, attribute),
+        MarkKind::Prefix,
+        attribute.at.get(),
+    );
     least.note_if(seen.has(name, &bound), MarkKind::Twice, attribute.at.get());
     seen.push(alloc, name, bound)
 }
