@@ -32,6 +32,7 @@ pub mod TakesPieces
 pub mod TakesSections
 pub mod TakesValues
 pub mod TakesTags
+pub mod TagSteps
 pub mod Scalars
 pub mod Letters
 pub mod Opened
@@ -84,3 +85,6 @@ pub mod Built
 pub mod Alike
 pub mod SharedBytes
 pub mod TextsRead
+pub mod Stepped
+pub mod BeyondChars
+pub mod Stopped

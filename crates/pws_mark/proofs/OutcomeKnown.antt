@@ -129,6 +129,9 @@ kept front s runs = keeps_run front [] start s (record { there = refl; known = r
 pub runs_are_known : RunsAreKnown
 runs_are_known front s runs = (kept front s runs).known
 
+pub runs_are_plain : (front : List ℕ) (s : State) → run start front ≡ Some s → PlainMode s.mode
+runs_are_plain front s runs = (kept front s runs).plain
+
 pub heads_begin : HeadsBegin
 heads_begin front u runs h = start_known u.mode u.outer front h (kept front u runs).known
 

@@ -3,7 +3,7 @@ use Rattle.std.proofs.Common.{◌≡◌, ℕ, Bool, true, false, List, [], ◌�
 use Rattle.std.specs.Option.{is_some}
 use Rattle.pws_mark.specs.Meaning.{char_text}
 use Rattle.pws_mark.specs.Scopes.{word_at, kept}
-use Rattle.pws_mark.specs.States.{Open, Outer, is_empty, taken, taken_in, with_char, text_after}
+use Rattle.pws_mark.specs.States.{Open, Outer, bound_at, spoiled, is_empty, taken, taken_in, with_char, text_after}
 use Rattle.pws_mark.specs.Values.{Marked}
 use Rattle.pws_mark.specs.declared.modes.Event.{Event}
 
@@ -36,3 +36,8 @@ plain_text c d text after is now = now ∙ ap (λ z. text ++ char_text z) (sym i
 
 pub no_text : (c : Option ℕ) (text : List ℕ) → c ≡ None → text ≡ text ++ char_text c
 no_text c text is = sym (ap (λ z. text ++ char_text z) is ∙ append-nil text)
+
+-- an element is no part of a name, but what is bound stays
+pub bound_spoiled : (xs : List Open) → bound_at (spoiled xs) ≡ bound_at xs
+bound_spoiled [] = refl
+bound_spoiled (x ∷ xs) = refl

@@ -1,18 +1,18 @@
 -- How many bytes of a character that the reader doesn't take begin one that it takes.
-use Rattle.std.proofs.Common.{◌≡◌, ◌⊎◌, inl, inr, ℕ, suc, ◌+◌, ◌-◌, ◌/◌, ◌%◌, ◌<◌, ◌≤◌, nat_le, nat_lt, Bool, true, false, ◌&&◌, ◌||◌, List, [], ◌∷◌, ◌++◌, length, take, refl, ap, subst, sym, ◌∙◌, append-nil, arith, Option, Some, None}
-use Rattle.std.specs.Prelude.{◌==◌, if◌then◌else◌, encode_utf8}
+use Rattle.std.proofs.Common.{◌≡◌, ◌⊎◌, inl, inr, ℕ, suc, ◌-◌, ◌%◌, ◌<◌, ◌≤◌, nat_le, nat_lt, Bool, true, false, ◌&&◌, ◌||◌, List, [], ◌∷◌, length, take, refl, ap, subst, sym, ◌∙◌, append-nil, arith, None}
+use Rattle.std.specs.Prelude.{if◌then◌else◌, encode_utf8}
 use Rattle.std.specs.Option.{is_some}
 use Rattle.std.specs.List.{list_all}
 use Rattle.std.proofs.lemmas.Bool.{and_parts, and_from, or_cases, leb-true, leb-false, le-leb, ltb-true, ltb-false, eqb-true, eq-eqb}
 use Rattle.std.proofs.lemmas.Str.{encode_same}
-use Rattle.pws_tree.specs.Characters.{is_in, is_name_start, is_name_char, meets, xml_ranges, name_start_ranges, name_more_ranges}
+use Rattle.pws_tree.specs.Characters.{is_in, is_name_char, meets, xml_ranges, name_start_ranges, name_more_ranges}
 use Rattle.pws_mark.specs.ReaderLaws.{BeginsTaken, Shares}
 use Rattle.pws_mark.specs.Scan.{step}
 use Rattle.pws_mark.specs.States.{State}
-use Rattle.pws_mark.specs.Stopping.{is_among, has_between, has_alike, TakesBeyond, shared_of_two, shared_of_three, shared_of_four, shared_by, SharedTells}
+use Rattle.pws_mark.specs.Stopping.{is_among, has_between, has_alike, TakesBeyond, shared_of_two, shared_of_three, shared_of_four, SharedTells}
 use Rattle.pws_mark.specs.declared.stopping.BeyondAscii.{BeyondAscii}
 use Rattle.pws_mark.specs.declared.stopping.BeyondAscii.TheVariants as beyond
-use Rattle.pws_mark.proofs.Alike.{Alike, InSpan, first_from, span_first, span_last, in_one, in_two, in_three, in_four, two_bytes, three_bytes, four_bytes, front_two, front_three, front_three_two, front_four, front_four_two, front_four_three, alike_two, alike_three, alike_three_two, alike_four, alike_four_two, alike_four_three}
+use Rattle.pws_mark.proofs.Alike.{Alike, first_from, span_first, span_last, in_one, in_two, in_three, in_four, two_bytes, three_bytes, four_bytes, front_two, front_three, front_three_two, front_four, front_four_two, front_four_three, alike_two, alike_three, alike_three_two, alike_four, alike_four_two, alike_four_three}
 
 either_true : (a b : Bool) → (a ≡ true) ⊎ (b ≡ true) → (a || b) ≡ true
 either_true true b h = refl

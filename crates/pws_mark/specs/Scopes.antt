@@ -1,6 +1,6 @@
 -- The open elements, as the reader keeps them: each with the declarations of its own tag. It is here for the proofs
 -- alone: no contract of another crate names it.
-use Rattle.std.specs.Prelude.{◌≡◌, ℕ, Bool, false, not, ◌&&◌, ◌==◌, length, filter, List, [], ◌∷◌, ◌++◌, fold, Option, Some, None}
+use Rattle.std.specs.Prelude.{◌≡◌, ℕ, Bool, false, not, ◌&&◌, ◌==◌, length, filter, List, [], ◌∷◌, ◌++◌, fold, if◌then◌else◌, Option, Some, None}
 use Rattle.std.specs.List.{filter_map}
 use Rattle.std.specs.Str.{bytes_eq}
 use Rattle.pws_mark.specs.Bindings.{Bindings, xmlns_word, element_name}
@@ -60,3 +60,10 @@ pub record Begins (b : Begun) (tag : ReadTag) (xs : List Open) : Type 0 where
   pub name : b.name ≡ name_of (read_bound tag.attributes (bound_at xs)) tag.name
   pub attrs : b.attrs ≡ read_attrs (read_bound tag.attributes (bound_at xs)) tag.attributes
   pub word : b.is_word ≡ is_value_name (element_name (read_bound tag.attributes (bound_at xs)) tag.name)
+
+-- an element as a tag with these declarations opens it
+pub record IsOpened (x : OpenElement) (tag : ReadTag) (own : Bindings) (is_word : Bool) : Type 0 where
+  pub name : x.name ≡ tag.name
+  pub at : x.at ≡ tag.at
+  pub scope : x.scope ≡ own
+  pub word : x.word ≡ (if is_word then Some (Some []) else None)

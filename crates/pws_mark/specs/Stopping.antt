@@ -43,6 +43,9 @@ abbrev pub beyond_opened : Region → BeyondAscii
 beyond_opened region_is.Behind = beyond.Nothing
 beyond_opened _ = beyond.NameStarts
 
+abbrev pub beyond_comment : ℕ → BeyondAscii
+beyond_comment n = if n == 2 then beyond.Nothing else beyond.XmlChars
+
 abbrev pub beyond_one : Option ℕ → BeyondAscii
 beyond_one None = beyond.Nothing
 beyond_one (Some c) = beyond.One c
@@ -59,7 +62,7 @@ beyond_ascii (mode.HeadOpened at) o = beyond.NameStarts
 beyond_ascii (mode.Content n after_return) o = beyond_content (region o)
 beyond_ascii (mode.TextReference at r) o = beyond_reference r
 beyond_ascii (mode.Opened at) o = beyond_opened (region o)
-beyond_ascii (mode.Comment n) o = if n == 2 then beyond.Nothing else beyond.XmlChars
+beyond_ascii (mode.Comment n) o = beyond_comment n
 beyond_ascii (mode.Section n after_return) o = beyond.XmlChars
 beyond_ascii (mode.TagName tag starts) o = beyond_name starts
 beyond_ascii (mode.InTag tag spaced) o = if spaced then beyond.NameStarts else beyond.Nothing

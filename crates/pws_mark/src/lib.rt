@@ -38,9 +38,12 @@ mod seen;
 mod spaces;
 mod steps;
 mod stopping;
+mod tag_steps;
 mod tags;
 #[cfg(test)]
 mod tests;
+mod values;
+mod words;
 pub mod writing;
 
 ghost use Rattle.pws_mark.specs.Examples.{WorkedTexts};

@@ -56,7 +56,7 @@ impl<'a> Inside<'a> {
     }
 
     /// Whether a prefix is bound.
-    fn is_bound(&self, prefix: &[char]) -> bool
+    pub fn is_bound(&self, prefix: &[char]) -> bool
         ensures { result ≡ is_bound self.now prefix.now }
     {
         prefix.is_empty() || self.space_at(prefix).is_some()

@@ -1,7 +1,8 @@
 //! The open elements, and what the prefixes are bound to.
 
-ghost use Rattle.std.specs.Prelude.{◌≡◌, ◌++◌, [], ◌∷◌, length, option_map, not, is_none, Some, None, OnOk, IfOk};
+ghost use Rattle.std.specs.Prelude.{◌≡◌, ◌<◌, ◌++◌, [], ◌∷◌, length, option_map, not, is_none, slice_get, Some, None, OnOk, IfOk};
 ghost use Rattle.pws_mark.specs.Bindings.{space_at, is_bound, element_name, attribute_name, outermost};
+ghost use Rattle.std.specs.Bool.{OnTrue};
 ghost use Rattle.std.specs.Option.{is_some};
 ghost use Rattle.pws_mark.specs.States.{bound_at, spoiled, is_empty, with_char};
 ghost use Rattle.pws_mark.specs.Stopping.{name_char_at};
@@ -236,7 +237,8 @@ impl Opens {
 
     /// Whether this character stands at this place of the innermost element's name.
     pub fn has_at(&self, place: usize, c: char) -> bool
-        ensures { result ≡ name_has self.now place c }
+        ensures value { result ≡ name_has self.now place c }
+        ensures within { OnTrue result (place < usize.MAX) }
     {
         match self.items.last() {
             Some(element) => has_at(element.name.as_slice(), place, c),
@@ -255,13 +257,20 @@ impl Opens {
     }
 }
 
+/// The character at a place of a name.
+fn letter_at(name: &[char], place: usize) -> Option<char>
+    ensures { result ≡ slice_get name.now place }
+{
+    name.get(place).copied()
+}
+
 impl Opens {
     /// The character at a place of the innermost element's name.
     pub fn name_char_at(&self, place: usize) -> Option<char>
         ensures { result ≡ name_char_at self.now place }
     {
         match self.items.last() {
-            Some(element) => element.name.as_slice().get(place).copied(),
+            Some(element) => letter_at(element.name.as_slice(), place),
             None => None,
         }
     }

@@ -1,14 +1,17 @@
 //! Where the reader stops at a character: what is refused there, and how many of its bytes begin one that is taken.
 
-ghost use Rattle.std.specs.Prelude.{◌≡◌, ℕ, ◌-◌, ◌<◌, ◌≤◌, ◌++◌, ◌&&◌, not, List, None, Some, codes};
+ghost use Rattle.std.specs.Prelude.{◌≡◌, ℕ, ◌≤◌, ◌&&◌, List, None, codes};
 ghost use Rattle.pws_mark.specs.Least.{lowered};
+ghost use Rattle.pws_mark.specs.Noted.{if_found};
 ghost use Rattle.pws_mark.specs.Outcome.{is_bang, question_before, question_finds, stop_finds};
 ghost use Rattle.pws_mark.specs.Places.{is_at};
-ghost use Rattle.pws_mark.specs.ReaderLaws.{Shares, is_early_in, is_before};
+ghost use Rattle.pws_mark.specs.ReaderLaws.{Shares, is_early_in};
 ghost use Rattle.pws_mark.specs.Scan.{is_within, run, start, step};
 ghost use Rattle.pws_mark.specs.States.{State};
-ghost use Rattle.pws_mark.specs.Stopping.{beyond_name, beyond_reference, beyond_content, beyond_opened, beyond_one, beyond_ascii, name_char_at, stand_of, StandsAt, has_between, has_alike, shared_of_two, shared_of_three, shared_of_four, shared_by};
+ghost use Rattle.pws_mark.specs.declared.errors.MarkKind.TheVariants as kind;
+ghost use Rattle.pws_mark.specs.Stopping.{beyond_name, beyond_reference, beyond_content, beyond_opened, beyond_comment, beyond_one, beyond_ascii, name_char_at, stand_of, StandsAt, has_between, has_alike, shared_of_two, shared_of_three, shared_of_four, shared_by};
 
+use crate::counts::Marks;
 use crate::errors::MarkKind;
 use crate::least::Least;
 use crate::modes::{Declaring, Mode, Reference, Region};
@@ -121,6 +124,16 @@ fn beyond_opened(region: Region) -> BeyondAscii
     }
 }
 
+/// The characters of a comment, behind so many hyphens.
+fn beyond_comment(hyphens: Marks) -> BeyondAscii
+    ensures { result ≡ beyond_comment hyphens }
+{
+    if hyphens.get() == 2 {
+        return BeyondAscii::Nothing;
+    }
+    BeyondAscii::XmlChars
+}
+
 /// This character, or none.
 fn beyond_one(c: Option<char>) -> BeyondAscii
     ensures { result ≡ beyond_one c }
@@ -141,8 +154,8 @@ fn beyond_ascii(mode: &Mode, outer: &Outer) -> BeyondAscii
         Mode::Content(_, _) => beyond_content(outer.region()),
         Mode::TextReference(_, reference) => beyond_reference(reference),
         Mode::Opened(_) => beyond_opened(outer.region()),
-        Mode::Comment(2) => BeyondAscii::Nothing,
-        Mode::Comment(_) | Mode::Section(_, _) | Mode::Value(_, _, _) => BeyondAscii::XmlChars,
+        Mode::Comment(marks) => beyond_comment(*marks),
+        Mode::Section(_, _) | Mode::Value(_, _, _) => BeyondAscii::XmlChars,
         Mode::TagName(_, starts) | Mode::AttributeName(_, _, starts) => beyond_name(*starts),
         Mode::ValueReference(_, _, _, _, reference) => beyond_reference(reference),
         Mode::EndName(count) => beyond_one(outer.name_char_at(*count)),
@@ -163,6 +176,13 @@ impl Stand {
             beyond: beyond_ascii(mode, outer),
         }
     }
+
+    /// Whether `<!` was read where a document type is told apart.
+    fn is_early_bang(self) -> bool
+        ensures { result ≡ (self.early && self.bang) }
+    {
+        self.early && self.bang
+    }
 }
 
 /// Whether these bytes stand at this place.
@@ -176,39 +196,39 @@ fn is_at(bytes: &[u8], at: usize, piece: &[u8]) -> bool
 }
 
 /// A processing instruction whose `<` stands so many bytes before.
+#[tactic(auto, unfolding(crate::specs::Least::lowered))]
 fn note_question(least: &mut Least, bytes: &[u8], at: usize, before: Option<usize>)
     ensures { least.new ≡ lowered least.old (question_finds bytes.now at before) }
 {
     if let Some(before) = before {
         let place = at.saturating_sub(before);
-        least.note_if(
-            is_at(bytes, place, b"<?"),
-            MarkKind::Instruction,
-            place,
-        );
+        least.note_if(is_at(bytes, place, b"<?"), MarkKind::Instruction, place);
     }
+}
+
+/// A document type at this place, where one is told apart.
+fn note_doctype(least: &mut Least, told: bool, bytes: &[u8], place: usize)
+    ensures { least.new ≡ lowered least.old (if_found (told && is_at bytes.now place (codes "<!DOCTYPE")) kind.Doctype place) }
+{
+    let wrong = told && is_at(bytes, place, b"<!DOCTYPE");
+    least.note_if(wrong, MarkKind::Doctype, place);
+}
+
+/// A processing instruction at this place, where one is told apart.
+fn note_instruction(least: &mut Least, told: bool, bytes: &[u8], place: usize)
+    ensures { least.new ≡ lowered least.old (if_found (told && is_at bytes.now place (codes "<?")) kind.Instruction place) }
+{
+    let wrong = told && is_at(bytes, place, b"<?");
+    least.note_if(wrong, MarkKind::Instruction, place);
 }
 
 /// A document type or a processing instruction where the reader stops, at this place.
 pub fn note_stop(least: &mut Least, stand: Stand, bytes: &[u8], at: usize)
     ensures { (s : State) → StandsAt stand s → s.at ≡ at → least.new ≡ lowered least.old (stop_finds s bytes.now) }
 {
-    let before = at.saturating_sub(2);
-    least.note_if(
-        stand.early && is_at(bytes, at, b"<!DOCTYPE"),
-        MarkKind::Doctype,
-        at,
-    );
-    least.note_if(
-        stand.early && stand.bang && is_at(bytes, before, b"<!DOCTYPE"),
-        MarkKind::Doctype,
-        before,
-    );
-    least.note_if(
-        !stand.within && is_at(bytes, at, b"<?"),
-        MarkKind::Instruction,
-        at,
-    );
+    note_doctype(least, stand.early, bytes, at);
+    note_doctype(least, stand.is_early_bang(), bytes, at.saturating_sub(2));
+    note_instruction(least, !stand.within, bytes, at);
     note_question(least, bytes, at, stand.question);
 }
 
