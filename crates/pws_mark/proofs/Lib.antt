@@ -82,9 +82,9 @@ pub mod OutcomeSteps
 pub mod OutcomeStops
 pub mod OutcomeTells
 pub mod Built
+pub mod Stepped
 pub mod Alike
 pub mod SharedBytes
 pub mod TextsRead
-pub mod Stepped
 pub mod BeyondChars
 pub mod Stopped

@@ -11,6 +11,7 @@ ghost use Rattle.pws_mark.specs.Scanning.{ended_in};
 ghost use Rattle.std.specs.Bool.{OnTrue};
 ghost use Rattle.std.specs.String.{string_bytes};
 ghost use Rattle.pws_mark.specs.declared.modes.Event.TheVariants as event;
+ghost use Rattle.pws_mark.specs.Stopping.{name_char_at};
 ghost use Rattle.pws_mark.specs.States.{bound_at, is_empty, spoiled, read_bound, flushed, started, hollowed, taken, qualified_event};
 
 use crate::errors::MarkKind;

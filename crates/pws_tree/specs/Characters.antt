@@ -7,7 +7,7 @@ use Rattle.std.specs.Str.{is_utf8}
 abbrev pub is_in : List (ℕ × ℕ) → ℕ → Bool
 is_in ranges c = list_any (λ r. nat_le r.0 c && nat_le c r.1) ranges
 
--- whether a range has a character from the first to the last
+-- whether one of the ranges has a character from the first to the last, which isn't below it
 abbrev pub meets : List (ℕ × ℕ) → ℕ → ℕ → Bool
 meets ranges first last = list_any (λ r. nat_le r.0 last && nat_le first r.1) ranges
 

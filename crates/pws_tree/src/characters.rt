@@ -72,7 +72,7 @@ pub fn is_name_char(c: char) -> bool
     is_name_start(c) || is_in(&NAME_MORE_RANGES, c as u32)
 }
 
-/// Whether a range has a code point from the first to the last.
+/// Whether one of the ranges has a code point from the first to the last, which isn't below it.
 fn meets(ranges: &[(u32, u32)], first: u32, last: u32) -> bool
     ensures { result ≡ meets ranges.now first last }
 {
@@ -81,7 +81,8 @@ fn meets(ranges: &[(u32, u32)], first: u32, last: u32) -> bool
         .any(|range| range.0 <= last && first <= range.1)
 }
 
-/// Whether XML has one of the characters from the first to the last, each given by its code point.
+/// Whether XML has one of the characters from the first to the last, each given by its code point; the last isn't
+/// below the first.
 #[tactic(auto, unfolding(crate::specs::Characters::xml_ranges))]
 pub fn has_xml_char(first: u32, last: u32) -> bool
     ensures { result ≡ meets xml_ranges first last }
@@ -90,7 +91,7 @@ pub fn has_xml_char(first: u32, last: u32) -> bool
 }
 
 /// Whether a name without a colon may begin with one of the characters from the first to the last, each given by its
-/// code point.
+/// code point; the last isn't below the first.
 #[tactic(auto, unfolding(crate::specs::Characters::name_start_ranges))]
 pub fn has_name_start(first: u32, last: u32) -> bool
     ensures { result ≡ meets name_start_ranges first last }
@@ -99,7 +100,7 @@ pub fn has_name_start(first: u32, last: u32) -> bool
 }
 
 /// Whether a name without a colon may go on with one of the characters from the first to the last, each given by its
-/// code point.
+/// code point; the last isn't below the first.
 #[tactic(auto, unfolding(crate::specs::Characters::name_more_ranges))]
 pub fn has_name_char(first: u32, last: u32) -> bool
     ensures { result ≡ (meets name_start_ranges first last || meets name_more_ranges first last) }
