@@ -180,12 +180,3 @@ impl Scan {
         outer.into_events()
     }
 }
-
-impl Scan {
-    /// What a stop needs of where the reader is.
-    pub fn stand(&self) -> Stand
-        ensures { StandsAt result self.now.state }
-    {
-        Stand::of(&self.mode, &self.outer)
-    }
-}
