@@ -84,8 +84,10 @@ pub mod OutcomeQuestions
 pub mod OutcomeSteps
 pub mod OutcomeStops
 pub mod OutcomeTells
+pub mod Built
 pub mod Stepped
 pub mod Alike
 pub mod SharedBytes
+pub mod TextsRead
 pub mod BeyondChars
 pub mod Stopped

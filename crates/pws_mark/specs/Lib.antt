@@ -8,6 +8,7 @@ pub mod Digits
 pub mod Documents
 pub mod Examples
 pub mod Faults
+pub mod Frames
 pub mod Grammar
 pub mod LawfulMeanings
 pub mod Least
@@ -26,6 +27,7 @@ pub mod Seen
 pub mod Spelling
 pub mod States
 pub mod Stopping
+pub mod Taken
 pub mod Texts
 pub mod TokenLaws
 pub mod Tokens

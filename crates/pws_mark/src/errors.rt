@@ -1,5 +1,6 @@
 //! Why a text isn't read.
 
+use pws_base::memory::Memory;
 use thiserror::Error;
 
 /// What is refused in a text.
@@ -40,4 +41,15 @@ pub enum ReadError {
     Mark(MarkError),
     #[error("out of memory")]
     Memory,
+}
+
+impl From<Memory> for ReadError {
+    ghost use Rattle.std.specs.Prelude.{◌≡◌};
+    ghost use Rattle.pws_mark.specs.declared.errors.ReadError.{ReadError};
+
+    ghost from_gives = { λ _ e. e ≡ ReadError.Memory };
+
+    fn from(_error: Memory) -> ReadError {
+        ReadError::Memory
+    }
 }

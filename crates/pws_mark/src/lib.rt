@@ -19,6 +19,7 @@
 //! for that tree, and no other tree has it. Nothing stands on this layer yet; the layer of envelopes will.
 #![tactic(auto)]
 
+mod building;
 mod counts;
 mod declaring;
 pub mod errors;
@@ -28,6 +29,7 @@ pub mod modes;
 mod names;
 mod outer;
 mod reader_laws;
+pub mod reading;
 mod references;
 mod resolving;
 mod scan;
