@@ -1,0 +1,4 @@
+pub mod Joined
+pub mod Lawful
+pub mod Read
+pub mod Roots
