@@ -1,9 +1,10 @@
 -- Lawful elements of the envelope namespace.
+use lib.Utf8.{encode}
 use Rattle.std.proofs.Common.{◌≡◌, ℕ, ◌+◌, ◌≤◌, max, Bool, true, false, not, ◌&&◌, nat_le, List, [], ◌∷◌, refl, ap, sym, ◌∙◌, arith, IsTrue}
 use Rattle.std.specs.Prelude.{if◌then◌else◌}
-use Rattle.std.specs.List.{list_all}
+use Rattle.std.specs.Str.{is_utf8, chars}
 use Rattle.std.proofs.lemmas.Bool.{leb-true, le-leb}
-use Rattle.pws_tree.specs.Names.{is_lawful_name, is_lawful_attr, ascend, is_value, envelope_space, xmlns_space, value_word}
+use Rattle.pws_tree.specs.Names.{is_lawful_name, is_value, envelope_space, xmlns_space, value_word}
 use Rattle.pws_tree.specs.Characters.{is_xml_text, is_local_name, xml_ranges, name_start_ranges, name_more_ranges}
 use Rattle.pws_tree.specs.Lawful.{is_lawful, is_lawful_tag, are_lawful, fits_name, levels, has_qualified, is_one_qualified, tree_depth}
 use Rattle.pws_tree.specs.Trees.{Tree, Nodes, NoNode, ElementThen, QualifiedThen}
@@ -42,15 +43,15 @@ abbrev pub IsPlainWord : List ℕ → Type 0
 IsPlainWord local = (is_lawful_name (soap_name local) ≡ true) × (is_value (soap_name local) ≡ false)
 
 pub envelope_plain : IsPlainWord envelope_word
-unfolding is_local_name is_xml_text xml_ranges name_start_ranges name_more_ranges envelope_space xmlns_space value_word envelope_word
+unfolding is_utf8 chars encode is_local_name is_xml_text xml_ranges name_start_ranges name_more_ranges envelope_space xmlns_space value_word envelope_word
 envelope_plain = (refl, refl)
 
 pub header_plain : IsPlainWord header_word
-unfolding is_local_name is_xml_text xml_ranges name_start_ranges name_more_ranges envelope_space xmlns_space value_word header_word
+unfolding is_utf8 chars encode is_local_name is_xml_text xml_ranges name_start_ranges name_more_ranges envelope_space xmlns_space value_word header_word
 header_plain = (refl, refl)
 
 pub body_plain : IsPlainWord body_word
-unfolding is_local_name is_xml_text xml_ranges name_start_ranges name_more_ranges envelope_space xmlns_space value_word body_word
+unfolding is_utf8 chars encode is_local_name is_xml_text xml_ranges name_start_ranges name_more_ranges envelope_space xmlns_space value_word body_word
 body_plain = (refl, refl)
 
 -- elements that are sound and have at most so many levels below them

@@ -28,7 +28,7 @@ marked e = if list_all is_well_marked e.headers then Some e else None
 abbrev pub root_parts : Enveloped → Parts
 root_parts e = record { header = nodes_of_trees e.headers; body = e.body }
 
-parts_back : (headers : List Tree) (body : Nodes) → parts_of (elements (header_then headers (element_then (soap_tree body_word body) NoNode))) ≡ Some (record { header = nodes_of_trees headers; body = body })
+pub parts_back : (headers : List Tree) (body : Nodes) → parts_of (elements (header_then headers (element_then (soap_tree body_word body) NoNode))) ≡ Some (record { header = nodes_of_trees headers; body = body })
 unfolding envelope_space header_word body_word
 parts_back [] body = refl
 parts_back (t ∷ ts) body = refl
@@ -56,12 +56,12 @@ record WasRead (t : Tree) (e : Enveloped) : Type 0 where
   order : in_order t.children ≡ Some e
   found : find is_not_understood e.headers ≡ None
 
+abbrev or_ok : Enveloped → Result Enveloped SoapError → Enveloped
+or_ok d (Ok e) = e
+or_ok d (Err x) = d
+
 by_find : (d e : Enveloped) (found : Option Tree) → find is_not_understood d.headers ≡ found → not_understood d found ≡ Ok e → (d ≡ e) × (find is_not_understood d.headers ≡ None)
 by_find d e None at h = (let f : Result Enveloped SoapError → Enveloped = or_ok d in (λ i. f (h i)), at)
-  where
-    abbrev or_ok : Enveloped → Result Enveloped SoapError → Enveloped
-    or_ok d (Ok e) = e
-    or_ok d (Err x) = d
 by_find d e (Some block) at h = let f : ◌≡◌ {A = Result Enveloped SoapError} (Err (soap_error.MustUnderstand block.name)) (Ok e) = h in cc
 
 by_order : (children : Nodes) (found : Option Enveloped) (e : Enveloped) → in_order children ≡ found → understood found ≡ Ok e → (in_order children ≡ Some e) × (find is_not_understood e.headers ≡ None)

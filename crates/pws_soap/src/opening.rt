@@ -2,7 +2,8 @@
 
 ghost use Rattle.std.specs.Prelude.{◌≡◌, ◌&&◌, List, IfOk, IsTrue, option_map};
 ghost use Rattle.std.specs.List.{list_all};
-ghost use Rattle.pws_tree.specs.Nodes.{nodes_of};
+ghost use Rattle.pws_tree.specs.Nodes.{node_then, nodes_of};
+ghost use Rattle.pws_tree.specs.Trees.{NoNode};
 ghost use Rattle.pws_soap.specs.Blocks.{is_well_marked};
 ghost use Rattle.pws_soap.specs.Envelopes.{elements, are_texts_white, parts_of, in_order, envelope_of, Answers};
 ghost use Rattle.pws_soap.specs.Opened.{parts_seen, envelope_seen};
@@ -43,18 +44,21 @@ fn elements_of(alloc: Global, children: Vec<Node>) -> Result<Vec<Element>, Memor
     Ok(found)
 }
 
+/// Whether a child is no text, or a text of white space.
+fn is_text_white(child: &Node) -> bool
+    ensures { result ≡ are_texts_white (node_then child.now NoNode) }
+{
+    match child {
+        Node::Text(text) => is_all_white(text.as_str()),
+        Node::Element(_) | Node::Qualified(_) => true,
+    }
+}
+
 /// Whether no text among children has other than white space.
 fn are_texts_white(children: &[Node]) -> bool
     ensures { result ≡ are_texts_white (nodes_of children.now) }
 {
-    for child in children {
-        if let Node::Text(text) = child {
-            if !is_all_white(text.as_str()) {
-                return false;
-            }
-        }
-    }
-    true
+    children.iter().all(is_text_white)
 }
 
 /// What the Header and the Body contain, where these elements are an optional Header and one Body.
