@@ -26,14 +26,6 @@ elements_push (node.Element e ∷ ns) n = ap (λ z. e ∷ z) (elements_push ns n
 elements_push (node.Text t ∷ ns) n = elements_push ns n
 elements_push (node.Qualified m ∷ ns) n = elements_push ns n
 
--- a text or a name adds no element
-pub elements_stay : (ns : List Node) (n : Node) (found : List Tree) → elements (node_then n NoNode) ≡ [] → found ≡ elements (nodes_of ns) → found ≡ elements (nodes_of (ns ++ n ∷ []))
-elements_stay ns n found none h = h ∙ (sym (append-nil (elements (nodes_of ns))) ∙ (ap (λ z. elements (nodes_of ns) ++ z) (sym none) ∙ sym (elements_push ns n)))
-
-pub map_same : {A : Type 0} (xs : List A) → map (λ x. x) xs ≡ xs
-map_same [] = refl
-map_same (x ∷ xs) = ap (λ z. x ∷ z) (map_same xs)
-
 -- whether the texts of a child are white
 pub white_of_first : (n : Node) (rest : Nodes) → are_texts_white (node_then n rest) ≡ (are_texts_white (node_then n NoNode) && are_texts_white rest)
 white_of_first (node.Element e) rest = refl

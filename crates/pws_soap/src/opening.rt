@@ -1,11 +1,12 @@
 //! The envelope that a tree is.
 
-ghost use Rattle.std.specs.Prelude.{◌≡◌, ◌&&◌, List, IfOk, IsTrue, option_map};
+ghost use Rattle.std.specs.Prelude.{◌≡◌, ◌++◌, IfOk, OnOk, option_map};
+ghost use Rattle.std.specs.Option.{is_some};
 ghost use Rattle.std.specs.List.{list_all};
 ghost use Rattle.pws_tree.specs.Nodes.{node_then, nodes_of};
 ghost use Rattle.pws_tree.specs.Trees.{NoNode};
 ghost use Rattle.pws_soap.specs.Blocks.{is_well_marked};
-ghost use Rattle.pws_soap.specs.Envelopes.{elements, are_texts_white, parts_of, in_order, envelope_of, Answers};
+ghost use Rattle.pws_soap.specs.Envelopes.{elements, are_texts_white, parts_of, blocks_then, in_order, envelope_of, Answers};
 ghost use Rattle.pws_soap.specs.Opened.{parts_seen, envelope_seen};
 
 use crate::blocks::{is_not_understood, is_well_marked};
@@ -31,15 +32,24 @@ struct Opened {
     body: Vec<Node>,
 }
 
+/// Adds a child to these elements, where it is one.
+fn keep_element(found: &mut Vec<Element>, child: Node) -> Result<(), Memory>
+    ensures { OnOk result (found.new.items ≡ found.old.items ++ elements (node_then child NoNode)) }
+{
+    match child {
+        Node::Element(element) => found.push(element)?,
+        Node::Text(_) | Node::Qualified(_) => {}
+    }
+    Ok(())
+}
+
 /// The elements among children.
 fn elements_of(alloc: Global, children: Vec<Node>) -> Result<Vec<Element>, Memory>
     ensures { IfOk result (λ found. found.items ≡ elements (nodes_of children.items)) }
 {
     let mut found = Vec::new(alloc);
     for child in children {
-        if let Node::Element(element) = child {
-            found.push(element)?;
-        }
+        keep_element(&mut found, child)?;
     }
     Ok(found)
 }
@@ -61,43 +71,44 @@ fn are_texts_white(children: &[Node]) -> bool
     children.iter().all(is_text_white)
 }
 
-/// What the Header and the Body contain, where these elements are an optional Header and one Body.
+/// Whether elements are an optional Header and one Body.
 #[tactic(auto, unfolding(crate::specs::Names::header_word, crate::specs::Names::body_word))]
+fn are_parts(elements: &[Element]) -> bool
+    ensures { result ≡ is_some (parts_of elements.now) }
+{
+    match elements {
+        [body] => is_soap_name("Body", body.name()),
+        [header, body] => {
+            is_soap_name("Header", header.name()) && is_soap_name("Body", body.name())
+        }
+        _ => false,
+    }
+}
+
+/// What the Header and the Body contain, where these elements are an optional Header and one Body.
 fn parts_of(alloc: Global, mut elements: Vec<Element>) -> Option<Parts>
     ensures { option_map parts_seen result ≡ parts_of elements.items }
 {
-    let body = elements.pop()?;
-    if !is_soap_name("Body", body.name()) {
+    if !are_parts(elements.as_slice()) {
         return None;
     }
-    let header = match elements.pop() {
-        Some(header) => {
-            if !is_soap_name("Header", header.name()) {
-                return None;
-            }
-            header.into_children()
-        }
-        None => Vec::new(alloc),
-    };
-    if !elements.is_empty() {
-        return None;
+    let body = elements.pop()?.into_children();
+    match elements.pop() {
+        Some(header) => Some(Parts {
+            header: header.into_children(),
+            body,
+        }),
+        None => Some(Parts {
+            header: Vec::new(alloc),
+            body,
+        }),
     }
-    Some(Parts {
-        header,
-        body: body.into_children(),
-    })
 }
 
-/// What stands in an envelope with these children, where they are in order.
-fn in_order(alloc: Global, children: Vec<Node>) -> Result<Option<Opened>, Memory>
-    ensures { IfOk result (λ found. option_map envelope_seen found ≡ in_order (nodes_of children.items)) }
+/// The header blocks and the body, where the header blocks are in order.
+fn blocks_of(alloc: Global, parts: Parts) -> Result<Option<Opened>, Memory>
+    ensures { IfOk result (λ found. option_map envelope_seen found ≡ blocks_then (parts_seen parts)) }
 {
-    if !are_texts_white(children.as_slice()) {
-        return Ok(None);
-    }
-    let Some(parts) = parts_of(alloc, elements_of(alloc, children)?) else {
-        return Ok(None);
-    };
     let Parts { header, body } = parts;
     if !are_texts_white(header.as_slice()) {
         return Ok(None);
@@ -107,6 +118,19 @@ fn in_order(alloc: Global, children: Vec<Node>) -> Result<Option<Opened>, Memory
         return Ok(None);
     }
     Ok(Some(Opened { headers, body }))
+}
+
+/// What stands in an envelope with these children, where they are in order.
+fn in_order(alloc: Global, children: Vec<Node>) -> Result<Option<Opened>, Memory>
+    ensures { IfOk result (λ found. option_map envelope_seen found ≡ in_order (nodes_of children.items)) }
+{
+    if !are_texts_white(children.as_slice()) {
+        return Ok(None);
+    }
+    match parts_of(alloc, elements_of(alloc, children)?) {
+        Some(parts) => blocks_of(alloc, parts),
+        None => Ok(None),
+    }
 }
 
 /// Refuses a root that isn't named as an envelope.
