@@ -1,0 +1,1 @@
+//! The addressing of a reply.
