@@ -88,7 +88,8 @@ fn is_one_qualified(children: &[Node]) -> bool
     children.len() == 1 && has_qualified(children)
 }
 
-fn has_qualified(children: &[Node]) -> bool
+/// Whether a qualified name is among these children.
+pub fn has_qualified(children: &[Node]) -> bool
     ensures { result ≡ has_qualified (nodes_of children.now) }
 {
     for child in children {

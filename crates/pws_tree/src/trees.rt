@@ -89,6 +89,20 @@ impl Element {
         })
     }
 
+    /// The element of these parts, which make a lawful one, with the attributes in the order of their names.
+    pub fn of_lawful(name: Name, attrs: Vec<Attr>, children: Vec<Node>) -> Element
+        requires { IsTrue (is_lawful (record { name = name; attrs = attrs.items; children = nodes_of children.items })) }
+        ensures { result ≡ record { name = name; attrs = attrs.items; children = nodes_of children.items } }
+    {
+        let depth = levels(children.as_slice()) + 1;
+        Element {
+            name,
+            attrs,
+            children,
+            depth,
+        }
+    }
+
     /// Its name.
     pub fn name(&self) -> &Name
         ensures { result.now ≡ self.now.name }
@@ -108,6 +122,14 @@ impl Element {
         ensures { nodes_of result.now ≡ self.now.children }
     {
         self.children.as_slice()
+    }
+
+    /// Its children, which aren't copied.
+    pub fn into_children(self) -> Vec<Node>
+        ensures { nodes_of result.items ≡ self.children }
+    {
+        let Element { children, .. } = self;
+        children
     }
 
     /// How many levels of elements it has, itself included: 1 to 64.

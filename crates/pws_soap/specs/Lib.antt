@@ -1,0 +1,9 @@
+pub mod Blocks
+pub mod Envelopes
+pub mod Faults
+pub mod Laws
+pub mod Made
+pub mod MadeFaults
+pub mod Names
+pub mod Opened
+pub mod White

@@ -1,0 +1,24 @@
+//! Laws of envelopes and faults. The functions do nothing: their contracts are the laws.
+
+ghost use Rattle.pws_soap.specs.Laws.{RootsAreRead, EnvelopesReadBack, RootsTellApart, FaultsTellApart};
+
+/// The root of an envelope is read as that envelope, where its header blocks are marked with truth values and none is
+/// refused.
+pub fn roots_are_read()
+    ensures { RootsAreRead }
+{}
+
+/// An envelope that was read is read again from the root that is written for it.
+pub fn envelopes_read_back()
+    ensures { EnvelopesReadBack }
+{}
+
+/// Two envelopes have one root exactly where they are the same.
+pub fn roots_tell_apart()
+    ensures { RootsTellApart }
+{}
+
+/// Two faults have one tree exactly where they are the same.
+pub fn faults_tell_apart()
+    ensures { FaultsTellApart }
+{}
