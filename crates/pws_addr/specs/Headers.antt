@@ -1,12 +1,9 @@
 -- The addressing headers (WS-Addressing 1.0 Core, section 3).
 use Rattle.std.specs.Prelude.{ℕ, List, codes}
 use Rattle.pws_tree.specs.declared.texts.Name.{Name}
+use Rattle.pws_soap.specs.Names.{addressing_space}
 use Rattle.pws_addr.specs.declared.headers.Header.{Header}
 use Rattle.pws_addr.specs.declared.headers.Header.TheVariants as header
-
--- section 1.2: the namespace of addressing
-unfoldable pub addressing_space : List ℕ
-addressing_space = codes "http://www.w3.org/2005/08/addressing"
 
 -- section 2.1: the address that names the sender's own connection
 unfoldable pub anonymous : List ℕ
@@ -16,15 +13,19 @@ anonymous = codes "http://www.w3.org/2005/08/addressing/anonymous"
 unfoldable pub reply_relation : List ℕ
 reply_relation = codes "http://www.w3.org/2005/08/addressing/reply"
 
--- section 3.2: the names of the headers
-unfoldable pub header_word : Header → List ℕ
-header_word header.To = codes "To"
-header_word header.From = codes "From"
-header_word header.ReplyTo = codes "ReplyTo"
-header_word header.FaultTo = codes "FaultTo"
-header_word header.Action = codes "Action"
-header_word header.MessageId = codes "MessageID"
-header_word header.RelatesTo = codes "RelatesTo"
+-- section 3.2: the local parts of the headers' names
+unfoldable pub header_local : Header → List ℕ
+header_local header.To = codes "To"
+header_local header.From = codes "From"
+header_local header.ReplyTo = codes "ReplyTo"
+header_local header.FaultTo = codes "FaultTo"
+header_local header.Action = codes "Action"
+header_local header.MessageId = codes "MessageID"
+header_local header.RelatesTo = codes "RelatesTo"
+
+-- a name of the addressing namespace
+abbrev pub addressing_name : List ℕ → Name
+addressing_name local = record { space = addressing_space; local = local }
 
 abbrev pub header_name : Header → Name
-header_name h = record { space = addressing_space; local = header_word h }
+header_name h = addressing_name (header_local h)

@@ -1,15 +1,15 @@
 //! The addressing of a message, and the names of its headers (WS-Addressing 1.0 Core, section 3).
 
 ghost use Rattle.std.specs.Prelude.{◌≡◌, IfOk};
-ghost use Rattle.pws_addr.specs.Headers.{header_word};
+ghost use Rattle.pws_addr.specs.Blocks.{holds_address};
+ghost use Rattle.pws_addr.specs.Headers.{addressing_name, header_local, header_name};
 
 use crate::xml_texts::XmlText;
 use pws_base::lists::{ExactCopy, Sequence};
 use pws_base::memory::Memory;
+use pws_soap::names::ADDRESSING_SPACE;
+use pws_tree::texts::{Name, Text};
 use std::alloc::Global;
-
-/// The namespace of addressing.
-pub const ADDRESSING_SPACE: &str = "http://www.w3.org/2005/08/addressing";
 
 /// The address that names the sender's own connection.
 pub const ANONYMOUS: &str = "http://www.w3.org/2005/08/addressing/anonymous";
@@ -31,9 +31,9 @@ pub enum Header {
 
 impl Header {
     /// The local part of its name.
-    #[tactic(auto, unfolding(crate::specs::Headers::header_word))]
-    pub fn word(self) -> &'static str
-        ensures { result.now ≡ header_word self }
+    #[tactic(auto, unfolding(crate::specs::Headers::header_local))]
+    pub fn local(self) -> &'static str
+        ensures { result.now ≡ header_local self }
     {
         match self {
             Header::To => "To",
@@ -45,7 +45,64 @@ impl Header {
             Header::RelatesTo => "RelatesTo",
         }
     }
+
+    /// Its name.
+    ///
+    /// # Errors
+    ///
+    /// `Memory` only.
+    pub fn name(self, alloc: Global) -> Result<Name, Memory>
+        ensures { IfOk result (λ n. n ≡ header_name self) }
+    {
+        addressing_name(alloc, self.local())
+    }
+
+    /// Whether it holds an endpoint reference, of which the address is the text of a child.
+    pub fn holds_address(self) -> bool
+        ensures { result ≡ holds_address self }
+    {
+        match self {
+            Header::From | Header::ReplyTo | Header::FaultTo => true,
+            Header::To | Header::Action | Header::MessageId | Header::RelatesTo => false,
+        }
+    }
 }
+
+/// The name of the addressing namespace with this local part.
+///
+/// # Errors
+///
+/// `Memory` only.
+#[tactic(auto, unfolding(pws_soap::specs::Names::addressing_space))]
+pub fn addressing_name(alloc: Global, local: &str) -> Result<Name, Memory>
+    ensures { IfOk result (λ n. n ≡ addressing_name local.now) }
+{
+    Ok(Name {
+        space: Text::from_str(alloc, ADDRESSING_SPACE)?,
+        local: Text::from_str(alloc, local)?,
+    })
+}
+
+/// The headers that stand once at most, in the order in which refusals are looked for.
+pub const SINGLE_HEADERS: [Header; 6] = [
+    Header::To,
+    Header::From,
+    Header::ReplyTo,
+    Header::FaultTo,
+    Header::Action,
+    Header::MessageId,
+];
+
+/// All headers, in the order in which refusals are looked for.
+pub const ALL_HEADERS: [Header; 7] = [
+    Header::To,
+    Header::From,
+    Header::ReplyTo,
+    Header::FaultTo,
+    Header::Action,
+    Header::MessageId,
+    Header::RelatesTo,
+];
 
 /// How a message relates to another.
 #[derive(Clone, Debug, Drop, PartialEq, Eq)]

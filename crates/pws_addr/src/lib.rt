@@ -3,5 +3,6 @@
 
 pub mod headers;
 pub mod identifiers;
+pub mod reading;
 pub mod replies;
 pub mod xml_texts;
