@@ -28,12 +28,16 @@ abbrev pub some_text : List ℕ → Option (List ℕ)
 some_text [] = None
 some_text (c ∷ cs) = Some (c ∷ cs)
 
+-- the text that is the only child
+abbrev pub only_text : Nodes → Option (List ℕ)
+only_text NoNode = None
+only_text (TextThen t rest) = if is_empty rest then Some t else None
+only_text (QualifiedThen n rest) = None
+only_text (ElementThen n attrs inner rest) = None
+
 -- what content says that is one text with more than white space: that text without the white space round it
 abbrev pub text_said : Nodes → Option (List ℕ)
-text_said NoNode = None
-text_said (TextThen t rest) = if is_empty rest then some_text (trim t) else None
-text_said (QualifiedThen n rest) = None
-text_said (ElementThen n attrs inner rest) = None
+text_said children = option_and_then (λ t. some_text (trim t)) (only_text children)
 
 abbrev pub is_address : Tree → Bool
 is_address t = is_named addressing_space address_word t.name

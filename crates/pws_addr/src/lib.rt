@@ -1,8 +1,9 @@
-//! Addressing headers, and the envelopes that drivers make.
+//! Addressing.
 #![tactic(auto)]
 
 pub mod headers;
 pub mod identifiers;
+pub mod putting;
 pub mod reading;
 pub mod replies;
 pub mod xml_texts;

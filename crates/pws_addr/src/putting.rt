@@ -65,6 +65,7 @@ fn block_of(
     requires sorted { IsTrue (ascend attrs.items) }
     ensures { IfOk result (λ t. t ≡ block_of header attrs.items text.now) }
 {
+    let _lawful = text.as_str();
     let name = header.name(alloc)?;
     let children = content_of(alloc, header, text)?;
     Ok(Element::of_lawful(name, attrs, children))

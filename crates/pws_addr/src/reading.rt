@@ -2,12 +2,13 @@
 
 ghost use Rattle.std.specs.Prelude.{◌≡◌, ◌&&◌, not, filter, find, is_some, option_map, IfOk, IfSome, IsTrue};
 ghost use Rattle.std.specs.List.{list_any, filter_map};
-ghost use Rattle.std.specs.Option.{option_copied, ForSome};
+ghost use Rattle.std.specs.Option.{option_copied, option_to_list, ForSome};
 ghost use Rattle.pws_tree.specs.Characters.{is_xml_text};
-ghost use Rattle.pws_tree.specs.Nodes.{nodes_of};
+ghost use Rattle.pws_tree.specs.Nodes.{node_then, nodes_of};
+ghost use Rattle.pws_tree.specs.Trees.{NoNode};
 ghost use Rattle.pws_soap.specs.Envelopes.{elements};
 ghost use Rattle.pws_addr.specs.Headers.{header_name};
-ghost use Rattle.pws_addr.specs.Reading.{is_block, some_text, text_said, is_address, only_of, address_said, said, kind_said, relation_said, first_said, all_said, single_headers, all_headers, is_twice, is_invalid, addressing_of, Answers};
+ghost use Rattle.pws_addr.specs.Reading.{is_block, some_text, only_text, text_said, is_address, only_of, address_said, said, is_relationship, kind_said, relation_said, first_said, all_said, single_headers, all_headers, is_twice, is_invalid, addressing_of, Answers};
 
 use crate::headers::{ALL_HEADERS, ANONYMOUS, Addressing, Header, REPLY_RELATION, Relation, SINGLE_HEADERS};
 use crate::xml_texts::XmlText;
@@ -17,7 +18,7 @@ use pws_soap::blocks::is_for_node;
 use pws_soap::envelopes::Envelope;
 use pws_soap::names::ADDRESSING_SPACE;
 use pws_soap::white::trim;
-use pws_tree::texts::{Attr, Name};
+use pws_tree::texts::{Attr, Name, Text};
 use pws_tree::trees::{Element, Node};
 use std::alloc::Global;
 use thiserror::Error;
@@ -67,16 +68,27 @@ fn some_text(text: &str) -> Option<&str>
     if text.is_empty() { None } else { Some(text) }
 }
 
-/// What the content of an element says, where it is one text with more than white space: that text without the white
-/// space round it.
+/// The text that is the only child.
+fn only_text(children: &[Node]) -> Option<&Text>
+    ensures { option_copied result ≡ only_text (nodes_of children.now) }
+{
+    if children.len() != 1 {
+        return None;
+    }
+    match &children[0] {
+        Node::Text(text) => Some(text),
+        Node::Element(_) | Node::Qualified(_) => None,
+    }
+}
+
+/// What an element says whose content is one text with more than white space: that text without the white space round it.
 fn text_said(element: &Element) -> Option<&str>
     ensures value { option_copied result ≡ text_said element.now.children }
     ensures lawful { IfSome result (λ text. IsTrue (is_xml_text text.now)) }
 {
-    match element.children() {
-        [Node::Text(text)] => some_text(trim(text.as_str())),
-        _ => None,
-    }
+    let _lawful = element.depth();
+    let text = only_text(element.children())?;
+    some_text(trim(text.as_str()))
 }
 
 /// Whether this is an `Address`.
@@ -87,19 +99,27 @@ fn is_address(element: &Element) -> bool
     element.name().space.as_str() == ADDRESSING_SPACE && element.name().local.as_str() == "Address"
 }
 
+/// The child itself, where it is an `Address`.
+fn address_in(child: &Node) -> Option<&Element>
+    ensures { option_to_list (option_copied result) ≡ filter is_address (elements (node_then child.now NoNode)) }
+{
+    match child {
+        Node::Element(element) => if is_address(element) { Some(element) } else { None },
+        Node::Text(_) | Node::Qualified(_) => None,
+    }
+}
+
 /// The one `Address` among children, None where there is none or more.
 fn only_address(children: &[Node]) -> Option<&Element>
     ensures { option_copied result ≡ only_of (filter is_address (elements (nodes_of children.now))) }
 {
     let mut found = None;
     for child in children {
-        if let Node::Element(element) = child {
-            if is_address(element) {
-                if found.is_some() {
-                    return None;
-                }
-                found = Some(element);
+        if let Some(address) = address_in(child) {
+            if found.is_some() {
+                return None;
             }
+            found = Some(address);
         }
     }
     found
@@ -130,8 +150,10 @@ fn first_said(header: Header, headers: &[Element]) -> Option<&str>
     ensures value { option_copied result ≡ first_said header headers.now }
     ensures lawful { IfSome result (λ text. IsTrue (is_xml_text text.now)) }
 {
-    let block = headers.iter().find(|block| is_block(header, block))?;
-    said(header, block)
+    match headers.iter().find(|block| is_block(header, block)) {
+        Some(block) => said(header, block),
+        None => None,
+    }
 }
 
 /// Whether an attribute is the relation of a `RelatesTo`.
@@ -186,7 +208,16 @@ fn relations_said(alloc: Global, headers: &[Element]) -> Result<Sequence<Relatio
 fn is_twice(header: Header, headers: &[Element]) -> bool
     ensures { result ≡ is_twice headers.now header }
 {
-    headers.iter().filter(|block| is_block(header, block)).count() > 1
+    let mut seen = false;
+    for block in headers {
+        if is_block(header, block) {
+            if seen {
+                return true;
+            }
+            seen = true;
+        }
+    }
+    false
 }
 
 /// Whether one of these headers says nothing.
@@ -221,7 +252,7 @@ fn first_invalid(headers: &[Element]) -> Option<Header>
 /// A copy of what a header says.
 fn text_of(alloc: Global, said: Option<&str>) -> Result<Option<XmlText>, Memory>
     requires { ForSome said (λ text. IsTrue (is_xml_text text.now)) }
-    ensures { IfOk result (λ text. text ≡ option_copied said) }
+    ensures { IfOk result (λ text. text ≡ option_copied said.entry) }
 {
     match said {
         Some(text) => Ok(Some(XmlText::from_str(alloc, text)?)),

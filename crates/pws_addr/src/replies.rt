@@ -12,7 +12,7 @@ use pws_base::memory::Memory;
 use std::alloc::Global;
 
 /// The anonymous address.
-#[tactic(auto, unfolding(crate::specs::Headers::anonymous, pws_tree::specs::Characters::is_xml_text, pws_tree::specs::Characters::xml_ranges))]
+#[tactic(auto, unfolding(crate::specs::Headers::anonymous))]
 pub(crate) fn anonymous(alloc: Global) -> Result<XmlText, Memory>
     ensures { IfOk result (λ t. t ≡ anonymous) }
 {
@@ -20,7 +20,7 @@ pub(crate) fn anonymous(alloc: Global) -> Result<XmlText, Memory>
 }
 
 /// The relation of a reply to the message of this identifier.
-#[tactic(auto, unfolding(crate::specs::Headers::reply_relation, pws_tree::specs::Characters::is_xml_text, pws_tree::specs::Characters::xml_ranges))]
+#[tactic(auto, unfolding(crate::specs::Headers::reply_relation))]
 fn in_reply(alloc: Global, id: &XmlText) -> Result<Relation, Memory>
     ensures { IfOk result (λ r. r ≡ in_reply id.now) }
 {
@@ -42,7 +42,7 @@ fn relations(alloc: Global, id: &Option<XmlText>) -> Result<Sequence<Relation>, 
 }
 
 /// The action of a reply.
-#[tactic(auto, unfolding(crate::specs::Replies::reply_action, pws_tree::specs::Characters::is_xml_text, pws_tree::specs::Characters::xml_ranges))]
+#[tactic(auto, unfolding(crate::specs::Replies::reply_action))]
 fn reply_action(alloc: Global) -> Result<XmlText, Memory>
     ensures { IfOk result (λ t. t ≡ reply_action) }
 {
