@@ -2,6 +2,7 @@
 -- WS-Addressing 1.0 SOAP Binding, section 6.
 use Rattle.std.specs.Prelude.{ℕ, Bool, nat_le, if◌then◌else◌, List, [], ◌∷◌, length, codes, Option, Some, None}
 use Rattle.pws_tree.specs.Trees.{Tree, Nodes, NoNode}
+use Rattle.pws_tree.specs.declared.texts.Name.{Name}
 use Rattle.pws_mark.specs.Canonical.{canonical}
 use Rattle.pws_soap.specs.Envelopes.{Enveloped, element_then, root_of}
 use Rattle.pws_soap.specs.Faults.{text_nodes, fault_tree, envelope_around}
@@ -32,8 +33,11 @@ reply_local = codes "reply"
 unfoldable pub text_local : List ℕ
 text_local = codes "text"
 
+abbrev pub service_name : List ℕ → Name
+service_name local = record { space = service_space; local = local }
+
 abbrev pub service_tree : List ℕ → Nodes → Tree
-service_tree local children = record { name = record { space = service_space; local = local }; attrs = []; children = children }
+service_tree local children = record { name = service_name local; attrs = []; children = children }
 
 -- an element with one child `text`
 abbrev pub message_tree : List ℕ → List ℕ → Tree

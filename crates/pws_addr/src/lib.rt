@@ -1,6 +1,8 @@
 //! Addressing.
 #![tactic(auto)]
 
+pub mod causes;
+pub mod envelopes;
 pub mod headers;
 pub mod identifiers;
 pub mod putting;

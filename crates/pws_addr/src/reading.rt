@@ -1,14 +1,13 @@
 //! Reading the addressing of an envelope.
 
-ghost use Rattle.std.specs.Prelude.{◌≡◌, ◌&&◌, not, filter, find, is_some, option_map, IfOk, IfSome, IsTrue};
-ghost use Rattle.std.specs.List.{list_any, filter_map};
+ghost use Rattle.std.specs.Prelude.{◌≡◌, ◌++◌, filter, find, unwrap_or, IfOk, OnOk, IfSome, IsTrue};
+ghost use Rattle.std.specs.List.{filter_map, list_any};
 ghost use Rattle.std.specs.Option.{option_copied, option_to_list, ForSome};
 ghost use Rattle.pws_tree.specs.Characters.{is_xml_text};
 ghost use Rattle.pws_tree.specs.Nodes.{node_then, nodes_of};
 ghost use Rattle.pws_tree.specs.Trees.{NoNode};
 ghost use Rattle.pws_soap.specs.Envelopes.{elements};
-ghost use Rattle.pws_addr.specs.Headers.{header_name};
-ghost use Rattle.pws_addr.specs.Reading.{is_block, some_text, only_text, text_said, is_address, only_of, address_said, said, is_relationship, kind_said, relation_said, first_said, all_said, single_headers, all_headers, is_twice, is_invalid, addressing_of, Answers};
+ghost use Rattle.pws_addr.specs.Reading.{is_block, some_text, only_text, text_said, is_address, only_of, address_said, said, is_relationship, kind_said, relation_said, first_said, all_said, single_headers, all_headers, is_twice, is_invalid, valid, required, addressing_of, Answers};
 
 use crate::headers::{ALL_HEADERS, ANONYMOUS, Addressing, Header, REPLY_RELATION, Relation, SINGLE_HEADERS};
 use crate::xml_texts::XmlText;
@@ -63,7 +62,8 @@ fn is_block(header: Header, block: &Element) -> bool
 
 /// The text, where there is a character.
 fn some_text(text: &str) -> Option<&str>
-    ensures { option_copied result ≡ some_text text.now }
+    ensures value { option_copied result ≡ some_text text.now }
+    ensures lawful { IsTrue (is_xml_text text.now) → IfSome result (λ some. IsTrue (is_xml_text some.now)) }
 {
     if text.is_empty() { None } else { Some(text) }
 }
@@ -145,12 +145,19 @@ fn said(header: Header, block: &Element) -> Option<&str>
     }
 }
 
+/// The first of these headers.
+fn first_block(header: Header, headers: &[Element]) -> Option<&Element>
+    ensures { option_copied result ≡ find (is_block header) headers.now }
+{
+    headers.iter().find(|block| is_block(header, block))
+}
+
 /// What the first of these headers says.
 fn first_said(header: Header, headers: &[Element]) -> Option<&str>
     ensures value { option_copied result ≡ first_said header headers.now }
     ensures lawful { IfSome result (λ text. IsTrue (is_xml_text text.now)) }
 {
-    match headers.iter().find(|block| is_block(header, block)) {
+    match first_block(header, headers) {
         Some(block) => said(header, block),
         None => None,
     }
@@ -164,13 +171,21 @@ fn is_relationship(attr: &Attr) -> bool
     attr.name.space.as_str() == "" && attr.name.local.as_str() == "RelationshipType"
 }
 
+/// The attribute that tells the relation of a `RelatesTo`.
+fn relationship(attrs: &[Attr]) -> Option<&Attr>
+    ensures { option_copied result ≡ find is_relationship attrs.now }
+{
+    attrs.iter().find(|attr| is_relationship(attr))
+}
+
 /// The relation that a `RelatesTo` tells.
 #[tactic(auto, unfolding(crate::specs::Headers::reply_relation))]
 fn kind_said(block: &Element) -> &str
     ensures value { result.now ≡ kind_said block.now.attrs }
     ensures lawful { IsTrue (is_xml_text result.now) }
 {
-    match block.attrs().iter().find(|attr| is_relationship(attr)) {
+    let _lawful = block.depth();
+    match relationship(block.attrs()) {
         Some(attr) => attr.value.as_str(),
         None => REPLY_RELATION,
     }
@@ -189,6 +204,19 @@ fn relation_said(alloc: Global, block: &Element) -> Result<Option<Relation>, Mem
     }
 }
 
+/// Adds a relation, where there is one.
+fn push_relation(
+    relations: &mut Sequence<Relation>,
+    relation: Option<Relation>,
+) -> Result<(), Memory>
+    ensures { OnOk result (relations.new ≡ relations.old ++ option_to_list relation) }
+{
+    if let Some(relation) = relation {
+        relations.push(relation)?;
+    }
+    Ok(())
+}
+
 /// What each `RelatesTo` says.
 fn relations_said(alloc: Global, headers: &[Element]) -> Result<Sequence<Relation>, Memory>
     ensures { IfOk result (λ relations. relations ≡ filter_map relation_said (filter (is_block Header.RelatesTo) headers.now)) }
@@ -196,9 +224,7 @@ fn relations_said(alloc: Global, headers: &[Element]) -> Result<Sequence<Relatio
     let mut relations = Sequence::new(alloc);
     for block in headers {
         if is_block(Header::RelatesTo, block) {
-            if let Some(relation) = relation_said(alloc, block)? {
-                relations.push(relation)?;
-            }
+            push_relation(&mut relations, relation_said(alloc, block)?)?;
         }
     }
     Ok(relations)
@@ -249,6 +275,15 @@ fn first_invalid(headers: &[Element]) -> Option<Header>
         .find(|header| is_invalid(*header, headers))
 }
 
+/// Whether there is an Action.
+fn has_action(headers: &[Element]) -> bool
+    ensures { result ≡ list_any (is_block Header.Action) headers.now }
+{
+    headers
+        .iter()
+        .any(|block| is_block(Header::Action, block))
+}
+
 /// A copy of what a header says.
 fn text_of(alloc: Global, said: Option<&str>) -> Result<Option<XmlText>, Memory>
     requires { ForSome said (λ text. IsTrue (is_xml_text text.now)) }
@@ -260,13 +295,26 @@ fn text_of(alloc: Global, said: Option<&str>) -> Result<Option<XmlText>, Memory>
     }
 }
 
+/// What a header says, or else this text.
+fn text_or<'a>(said: Option<&'a str>, default: &'a str) -> &'a str
+    requires said { ForSome said (λ text. IsTrue (is_xml_text text.now)) }
+    requires default { IsTrue (is_xml_text default.now) }
+    ensures value { result.now ≡ unwrap_or (option_copied said.entry) default.now }
+    ensures lawful { IsTrue (is_xml_text result.now) }
+{
+    match said {
+        Some(text) => text,
+        None => default,
+    }
+}
+
 /// What these headers say, of which none stands twice and none says nothing.
 #[tactic(auto, unfolding(crate::specs::Headers::anonymous))]
 fn all_said(alloc: Global, headers: &[Element]) -> Result<Addressing, Memory>
     ensures { IfOk result (λ a. a ≡ all_said headers.now) }
 {
-    let to = first_said(Header::To, headers).unwrap_or(ANONYMOUS);
-    let action = first_said(Header::Action, headers).unwrap_or("");
+    let to = text_or(first_said(Header::To, headers), ANONYMOUS);
+    let action = text_or(first_said(Header::Action, headers), "");
     Ok(Addressing {
         to: XmlText::from_str(alloc, to)?,
         action: XmlText::from_str(alloc, action)?,
@@ -276,6 +324,27 @@ fn all_said(alloc: Global, headers: &[Element]) -> Result<Addressing, Memory>
         from: text_of(alloc, first_said(Header::From, headers))?,
         fault_to: text_of(alloc, first_said(Header::FaultTo, headers))?,
     })
+}
+
+/// The addressing of headers of which none stands twice, with an Action among them.
+fn valid(alloc: Global, headers: &[Element]) -> Result<Addressing, AddrError>
+    ensures { Answers (valid headers.now (find (is_invalid headers.now) all_headers)) result }
+{
+    match first_invalid(headers) {
+        Some(header) => Err(AddrError::Invalid(header.name(alloc)?)),
+        None => Ok(all_said(alloc, headers)?),
+    }
+}
+
+/// The addressing of headers of which none stands twice.
+fn required(alloc: Global, headers: &[Element]) -> Result<Addressing, AddrError>
+    ensures { Answers (required headers.now) result }
+{
+    if has_action(headers) {
+        valid(alloc, headers)
+    } else {
+        Err(AddrError::Required)
+    }
 }
 
 /// The addressing of an envelope: WS-Addressing 1.0 Core, section 3, and SOAP Binding, section 3. The header blocks for this
@@ -292,14 +361,8 @@ pub fn read_addressing(alloc: Global, envelope: &Envelope) -> Result<Addressing,
     ensures { Answers (addressing_of envelope.now.headers) result }
 {
     let headers = envelope.headers();
-    if let Some(header) = first_twice(headers) {
-        return Err(AddrError::Cardinality(header.name(alloc)?));
+    match first_twice(headers) {
+        Some(header) => Err(AddrError::Cardinality(header.name(alloc)?)),
+        None => required(alloc, headers),
     }
-    if !headers.iter().any(|block| is_block(Header::Action, block)) {
-        return Err(AddrError::Required);
-    }
-    if let Some(header) = first_invalid(headers) {
-        return Err(AddrError::Invalid(header.name(alloc)?));
-    }
-    Ok(all_said(alloc, headers)?)
 }

@@ -43,7 +43,7 @@ fn relations(alloc: Global, id: &Option<XmlText>) -> Result<Sequence<Relation>, 
 
 /// The action of a reply.
 #[tactic(auto, unfolding(crate::specs::Replies::reply_action))]
-fn reply_action(alloc: Global) -> Result<XmlText, Memory>
+pub(crate) fn reply_action(alloc: Global) -> Result<XmlText, Memory>
     ensures { IfOk result (λ t. t ≡ reply_action) }
 {
     XmlText::from_str(alloc, "urn:pws:reply")
