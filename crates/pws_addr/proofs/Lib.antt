@@ -1,0 +1,4 @@
+pub mod Faults
+pub mod Lawful
+pub mod Printable
+pub mod Said

@@ -1,0 +1,14 @@
+use Rattle.std.proofs.Common.{◌≡◌, subst, IsTrue, rules, sym}
+use Rattle.pws_tree.specs.Lawful.{is_lawful}
+use Rattle.pws_tree.specs.Nodes.{nodes_of}
+use Rattle.pws_tree.specs.Trees.{Tree}
+use Rattle.pws_addr.specs.Blocks.{address_word, address_tree}
+use Rattle.pws_addr.proofs.Lawful.{address_lawful}
+use Rattle.pws_addr.proofs.putting.address_element.Goals as goal
+
+pub of_lawful-requires : goal.of_lawful-requires
+unfolding address_word
+of_lawful-requires c =
+    let t : Tree = record { name = c.in_ok-name.name; attrs = c.new.result.items; children = nodes_of c.in_ok-children.children.items } in
+    let e : t ≡ address_tree c.args.text.now = search rules in
+    subst (λ x. IsTrue (is_lawful x)) (sym e) (address_lawful c.args.text.now (search rules))
