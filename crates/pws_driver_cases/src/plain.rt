@@ -1,13 +1,15 @@
 //! Texts in the place of envelopes.
 
-ghost use Rattle.std.specs.Prelude.{◌≡◌, drop, IfOk};
-ghost use Rattle.pws_driver_cases.specs.Plain.{is_fault, fitting, only_if, field_of};
+ghost use Rattle.std.specs.Prelude.{◌≡◌, drop, codes, IfOk};
+ghost use Rattle.pws_driver_cases.specs.Plain.{is_fault, fitting, only_if, xml_of, field_of};
 
 use pws_base::bytes::Bytes;
 use pws_base::memory::Memory;
 use pws_base::shapes::GroupId;
 use pws_driver::envelopes::Envelopes;
 use pws_driver::keys::Key;
+use pws_tree::characters::is_xml_text;
+use pws_tree::xml_texts::XmlText;
 use std::alloc::Global;
 
 /// Texts in the place of envelopes: a message is its text, and one that begins with an exclamation mark is a fault.
@@ -30,14 +32,38 @@ fn fitting(alloc: Global, text: &[u8]) -> Result<Option<Bytes>, Memory>
     }
 }
 
-fn only_if(alloc: Global, some: bool, text: &[u8]) -> Result<Bytes, Memory>
-    ensures { IfOk result (λ t. t ≡ only_if some text.now) }
+fn only_if(alloc: Global, some: bool, text: XmlText) -> XmlText
+    ensures { result ≡ only_if some text }
 {
-    if some {
-        Bytes::from_slice(alloc, text)
+    if some { text } else { XmlText::new(alloc) }
+}
+
+/// This text, if it has XML characters only.
+fn xml_text_of(alloc: Global, text: &str) -> Result<XmlText, Memory>
+    ensures { IfOk result (λ t. t ≡ xml_of text.now) }
+{
+    if is_xml_text(text) {
+        XmlText::from_str(alloc, text)
     } else {
-        Ok(Bytes::new(alloc))
+        Ok(XmlText::new(alloc))
     }
+}
+
+/// The text of these bytes, if they are one and it has XML characters only.
+fn xml_of(alloc: Global, bytes: &[u8]) -> Result<XmlText, Memory>
+    ensures { IfOk result (λ t. t ≡ xml_of bytes.now) }
+{
+    match str::from_utf8(bytes) {
+        Ok(text) => xml_text_of(alloc, text),
+        Err(_) => Ok(XmlText::new(alloc)),
+    }
+}
+
+#[tactic(auto, using(crate::proofs::XmlTexts::receiver_xml))]
+fn receiver(alloc: Global) -> Result<XmlText, Memory>
+    ensures { IfOk result (λ t. t ≡ codes "Receiver") }
+{
+    XmlText::from_str(alloc, "Receiver")
 }
 
 fn rest(text: &[u8]) -> &[u8]
@@ -46,20 +72,20 @@ fn rest(text: &[u8]) -> &[u8]
     if text.is_empty() { text } else { &text[1..] }
 }
 
-fn field_of(alloc: Global, message: &[u8], name: &[u8]) -> Result<Bytes, Memory>
+fn field_of(alloc: Global, message: &[u8], name: &[u8]) -> Result<XmlText, Memory>
     ensures { IfOk result (λ t. t ≡ field_of message.now name.now) }
 {
     let fault = is_fault(message);
     if name == b"text".as_slice() {
-        return only_if(alloc, !fault, message);
+        return Ok(only_if(alloc, !fault, xml_of(alloc, message)?));
     }
     if name == b"Reason".as_slice() {
-        return only_if(alloc, fault, rest(message));
+        return Ok(only_if(alloc, fault, xml_of(alloc, rest(message))?));
     }
     if name == b"Code".as_slice() {
-        return only_if(alloc, fault, b"Receiver");
+        return Ok(only_if(alloc, fault, receiver(alloc)?));
     }
-    Ok(Bytes::new(alloc))
+    Ok(XmlText::new(alloc))
 }
 
 impl Envelopes for Plain {
@@ -73,9 +99,9 @@ impl Envelopes for Plain {
         alloc: Global,
         _me: GroupId,
         _key: Key,
-        text: &[u8],
+        text: &str,
     ) -> Result<Option<Bytes>, Memory> {
-        fitting(alloc, text)
+        fitting(alloc, text.as_bytes())
     }
 
     fn refusal_of(
@@ -96,10 +122,10 @@ impl Envelopes for Plain {
         _me: GroupId,
         _key: Key,
         _message: &[u8],
-        text: &[u8],
+        text: &str,
     ) -> Result<Bytes, Memory> {
         if text.len() <= 32768 {
-            Bytes::from_slice(alloc, text)
+            Bytes::from_slice(alloc, text.as_bytes())
         } else {
             Bytes::from_slice(alloc, b"!reply too long")
         }
@@ -125,7 +151,7 @@ impl Envelopes for Plain {
         Ok(message == other)
     }
 
-    fn field_text(alloc: Global, message: &[u8], name: &[u8]) -> Result<Bytes, Memory> {
+    fn field_text(alloc: Global, message: &[u8], name: &[u8]) -> Result<XmlText, Memory> {
         field_of(alloc, message, name)
     }
 }
