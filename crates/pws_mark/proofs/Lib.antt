@@ -44,6 +44,9 @@ pub mod FollowsFaults
 pub mod FollowsEvents
 pub mod Followed
 pub mod SeenNames
+pub mod SeenSets
+pub mod Prefixes
+pub mod Levels
 pub mod Outers
 pub mod Spelled
 pub mod Standing

@@ -36,26 +36,3 @@ space_around xs m prefix = ap (option_map (λ b. b.1)) (find-append (λ b. bytes
     by : (a b : Option (List ℕ × Option (List ℕ))) → option_map (λ c. c.1) (option_or a b) ≡ option_or (option_map (λ c. c.1) a) (option_map (λ c. c.1) b)
     by None b = refl
     by (Some a) b = refl
-
--- the innermost of the first elements
-pub bound_more : (xs : List OpenElement) (i : ℕ) (d : OpenElement) → i < length xs → bound_at (opens_of (take (i + 1) xs)) ≡ (get_or xs i d).scope ++ bound_at (opens_of (take i xs))
-bound_more xs i d within = ap (λ z. bound_at (opens_of z)) (take_more xs i d within) ∙ ap bound_at (opens_more [] (take i xs) (get_or xs i d))
-
--- the innermost of the first elements is passed over, or it tells
-bound_step : (xs : List OpenElement) (i : ℕ) (d : OpenElement) (prefix : List ℕ) → 0 < i → i ≤ length xs → d ≡ get_or xs (i - 1) d → space_at (bound_at (opens_of (take i xs))) prefix ≡ option_or (space_at d.scope prefix) (space_at (bound_at (opens_of (take (i - 1) xs))) prefix)
-bound_step xs i d prefix low within here =
-    let last : i ≡ (i - 1) + 1 = omega (arith, low) in
-    ap (λ k. space_at (bound_at (opens_of (take k xs))) prefix) last
-    ∙ (ap (λ m. space_at m prefix) (bound_more xs (i - 1) d (omega (arith, low, within)) ∙ ap (λ x. x.scope ++ bound_at (opens_of (take (i - 1) xs))) (sym here))
-    ∙ space_around d.scope (bound_at (opens_of (take (i - 1) xs))) prefix)
-
-pub space_found : (xs : List OpenElement) (i : ℕ) (d : OpenElement) (prefix : List ℕ) (space : Option (List ℕ)) (total : Option (Option (List ℕ))) → 0 < i → i ≤ length xs → d ≡ get_or xs (i - 1) d → Some space ≡ space_at d.scope prefix → total ≡ space_at (bound_at (opens_of (take i xs))) prefix → Some space ≡ total
-space_found xs i d prefix space total low within here found same =
-    sym (same ∙ (bound_step xs i d prefix low within here ∙ ap (λ z. option_or z (space_at (bound_at (opens_of (take (i - 1) xs))) prefix)) (sym found)))
-
-pub space_passed : (xs : List OpenElement) (i : ℕ) (d : OpenElement) (prefix : List ℕ) (total : Option (Option (List ℕ))) → 0 < i → i ≤ length xs → d ≡ get_or xs (i - 1) d → space_at d.scope prefix ≡ None → total ≡ space_at (bound_at (opens_of (take i xs))) prefix → total ≡ space_at (bound_at (opens_of (take (i - 1) xs))) prefix
-space_passed xs i d prefix total low within here missing same =
-    same ∙ (bound_step xs i d prefix low within here ∙ ap (λ z. option_or z (space_at (bound_at (opens_of (take (i - 1) xs))) prefix)) missing)
-
-pub space_outermost : (xs : List OpenElement) (i : ℕ) (prefix : List ℕ) (total : Option (Option (List ℕ))) → i ≤ 0 → total ≡ space_at (bound_at (opens_of (take i xs))) prefix → total ≡ space_at outermost prefix
-space_outermost xs i prefix total none same = let zero_is : i ≡ 0 = omega (arith, none) in same ∙ ap (λ k. space_at (bound_at (opens_of (take k xs))) prefix) zero_is

@@ -12,10 +12,12 @@ pub mod Frames
 pub mod Grammar
 pub mod LawfulMeanings
 pub mod Least
+pub mod Levels
 pub mod Meaning
 pub mod Noted
 pub mod Outcome
 pub mod Places
+pub mod Prefixes
 pub mod ReaderLaws
 pub mod Reading
 pub mod Scan

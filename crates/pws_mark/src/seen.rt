@@ -1,82 +1,140 @@
 //! The names of attributes that were seen in a tag.
 
-ghost use Rattle.std.specs.Prelude.{◌≡◌, ◌↔◌, [], ◌∷◌, ◌&&◌, OnOk, IsTrue};
+ghost use Rattle.std.specs.Prelude.{◌≡◌, ℕ, List, [], ◌∷◌, ◌++◌, ◌||◌, map, Some, OnOk};
 ghost use Rattle.std.specs.List.{list_any};
+ghost use Rattle.std.specs.Str.{bytes_eq};
+ghost use Rattle.pws_tree.specs.declared.texts.Name.{Name};
 ghost use Rattle.pws_mark.specs.Bindings.{same_name};
-ghost use Rattle.pws_mark.specs.Seen.{are_one};
+ghost use Rattle.pws_mark.specs.Seen.{are_one, now_of, has_written, has_bound};
 
-use crate::names::letters_of;
-use pws_base::lists::Sequence;
 use pws_base::memory::Memory;
 use pws_tree::texts::Name;
 use std::alloc::Global;
+use std::collections::BTreeSet;
 use std::marker::Model;
 
 /// Names of attributes, each as written and as bound, which contracts see as a list, the last one first.
+///
+/// The sets find a name in few steps.
 #[derive(Drop)]
-pub struct Seen {
-    items: Sequence<(Sequence<char>, Option<Name>)>,
+pub struct Seen<'a> {
+    items: Vec<(&'a [char], &'a Option<Name>)>,
+    written: BTreeSet<&'a [char]>,
+    bound: BTreeSet<(&'a str, &'a str)>,
 }
 
-impl Model for Seen {
-    ghost use Rattle.std.specs.Prelude.{ℕ, List, Option};
+impl<'a> Model for Seen<'a> {
+    ghost use Rattle.std.specs.Prelude.{ℕ, List, Option, map};
     ghost use Rattle.pws_tree.specs.declared.texts.Name.{Name};
-    ghost use Rattle.pws_mark.specs.Seen.{seen_of};
+    ghost use Rattle.pws_mark.specs.Seen.{seen_of, now_of, FindsSeen};
 
     ghost Value = { List (List ℕ × Option Name) };
 
-    ghost view = { λ s. seen_of s.items };
+    ghost view = { λ s. seen_of (map now_of s.items.items) };
+
+    ghost invariant = { λ s. FindsSeen s.written s.bound (seen_of (map now_of s.items.items)) };
 }
 
-/// Whether two names are there and are one.
-fn same_name(name: &Option<Name>, other: &Option<Name>) -> bool
-    ensures { result ≡ same_name name.now other.now }
+/// Adds a name as written.
+fn add_written<'a>(set: &mut BTreeSet<&'a [char]>, written: &'a [char]) -> Result<(), Memory>
+    ensures { OnOk result ((name : List ℕ) → has_written set.new name ≡ (bytes_eq name written.now || has_written set.old name)) }
 {
-    match (name, other) {
-        (Some(name), Some(other)) => {
-            name.space.as_str() == other.space.as_str()
-                && name.local.as_str() == other.local.as_str()
-        }
-        _ => false,
-    }
+    set.insert(written)?;
+    Ok(())
 }
 
-impl Seen {
+/// Adds a name as bound, if there is one.
+fn add_bound<'a>(
+    set: &mut BTreeSet<(&'a str, &'a str)>,
+    bound: &'a Option<Name>,
+) -> Result<(), Memory>
+    ensures { OnOk result ((name : Name) → has_bound set.new name ≡ (same_name (Some name) bound.now || has_bound set.old name)) }
+{
+    if let Some(name) = bound {
+        set.insert((name.local.as_str(), name.space.as_str()))?;
+    }
+    Ok(())
+}
+
+/// Adds a name to the list.
+fn add_item<'a>(
+    items: &mut Vec<(&'a [char], &'a Option<Name>)>,
+    written: &'a [char],
+    bound: &'a Option<Name>,
+) -> Result<(), Memory>
+    ensures { OnOk result (map now_of items.new.items ≡ map now_of items.old.items ++ (written.now, bound.now) ∷ []) }
+{
+    items.push((written, bound))?;
+    Ok(())
+}
+
+/// Adds a name to the list and to the sets.
+fn add<'a>(
+    items: &mut Vec<(&'a [char], &'a Option<Name>)>,
+    written_set: &mut BTreeSet<&'a [char]>,
+    bound_set: &mut BTreeSet<(&'a str, &'a str)>,
+    written: &'a [char],
+    bound: &'a Option<Name>,
+) -> Result<(), Memory>
+    ensures items { OnOk result (map now_of items.new.items ≡ map now_of items.old.items ++ (written.now, bound.now) ∷ []) }
+    ensures written { OnOk result ((name : List ℕ) → has_written written_set.new name ≡ (bytes_eq name written.now || has_written written_set.old name)) }
+    ensures bound { OnOk result ((name : Name) → has_bound bound_set.new name ≡ (same_name (Some name) bound.now || has_bound bound_set.old name)) }
+{
+    add_written(written_set, written)?;
+    add_bound(bound_set, bound)?;
+    add_item(items, written, bound)
+}
+
+impl<'a> Seen<'a> {
     /// No names.
-    pub fn new(alloc: Global) -> Seen
+    pub fn new(alloc: Global) -> Seen<'a>
         ensures { result ≡ [] }
     {
         Seen {
-            items: Sequence::new(alloc),
+            items: Vec::new(alloc),
+            written: BTreeSet::new(alloc),
+            bound: BTreeSet::new(alloc),
         }
     }
 
     /// Whether one of the names is this one, as written or as bound.
-    #[tactic(auto, using(crate::proofs::SeenNames::seen_any))]
-    pub fn has(&self, written: &[char], bound: &Option<Name>) -> bool
+    pub fn has(&self, written: &'a [char], bound: &'a Option<Name>) -> bool
         ensures { result ≡ list_any (are_one (written.now, bound.now)) self.now }
     {
-        for item in self.items.as_slice() {
-            if written == item.0.as_slice() || same_name(bound, &item.1) {
-                return true;
-            }
+        if self.written.contains(written) {
+            return true;
         }
-        false
+        match bound {
+            Some(name) => {
+                let key = (name.local.as_str(), name.space.as_str());
+                self.bound.contains(&key)
+            }
+            None => false,
+        }
     }
 
     /// One more name.
     ///
     /// # Errors
     ///
-    /// `Memory` only.
-    pub fn push(
-        &mut self,
-        alloc: Global,
-        written: &[char],
-        bound: Option<Name>,
-    ) -> Result<(), Memory>
-        ensures { OnOk result (self.new ≡ (written.now, bound) ∷ self.old) }
+    /// `Memory` only; no name is kept then.
+    pub fn push(&mut self, written: &'a [char], bound: &'a Option<Name>) -> Result<(), Memory>
+        ensures { OnOk result (self.new ≡ (written.now, bound.now) ∷ self.old) }
     {
-        self.items.push((letters_of(alloc, written)?, bound))
+        match add(
+            &mut self.items,
+            &mut self.written,
+            &mut self.bound,
+            written,
+            bound,
+        ) {
+            Ok(()) => Ok(()),
+            Err(memory) => {
+                self.items.clear();
+                self.written.clear();
+                self.bound.clear();
+                Err(memory)
+            }
+        }
     }
 }

@@ -1,6 +1,6 @@
 //! What a complete tag declares, has and shows to be refused.
 
-ghost use Rattle.std.specs.Prelude.{◌≡◌, ◌<◌, ◌≤◌, ◌+◌, ◌++◌, [], ◌∷◌, ◌&&◌, ◌||◌, length, option_map, unwrap_or, reverse, take, Some, None, get_or, slice_get, OnOk, IfOk};
+ghost use Rattle.std.specs.Prelude.{◌≡◌, ◌<◌, ◌≤◌, ◌+◌, ◌++◌, [], ◌∷◌, ◌&&◌, ◌||◌, length, option_map, unwrap_or, map, reverse, take, Some, None, get_or, slice_get, OnOk, IfOk};
 ghost use Rattle.std.specs.List.{filter_map, list_any};
 ghost use Rattle.std.specs.Str.{bytes_eq};
 ghost use Rattle.pws_mark.specs.Bindings.{is_space, is_wrong_declaration, xmlns_word};
@@ -8,7 +8,7 @@ ghost use Rattle.pws_mark.specs.Seen.{attribute_finds, finds_behind, names_of};
 ghost use Rattle.pws_mark.specs.Canonical.{xml_word, xml_space};
 ghost use Rattle.pws_tree.specs.Names.{xmlns_space};
 ghost use Rattle.pws_mark.specs.Least.{lowered};
-ghost use Rattle.pws_mark.specs.Noted.{if_found, is_wrong_read, tag_finds};
+ghost use Rattle.pws_mark.specs.Noted.{if_found, is_wrong_read, read_name, tag_finds};
 ghost use Rattle.pws_mark.specs.Faults.{is_wrong_name};
 ghost use Rattle.pws_mark.specs.declared.errors.MarkKind.TheVariants as kind;
 ghost use Rattle.pws_mark.specs.Scopes.{own_bound};
@@ -24,7 +24,7 @@ use crate::seen::Seen;
 use crate::spaces::XML_SPACE;
 use pws_base::lists::{ExactCopy, Sequence};
 use pws_base::memory::Memory;
-use pws_tree::texts::{Attr, Text};
+use pws_tree::texts::{Attr, Name, Text};
 use std::alloc::Global;
 
 /// Namespaces in XML 1.0, section 3.
@@ -48,16 +48,18 @@ fn is_fixed(prefix: &[char]) -> bool
     prefix == ['x', 'm', 'l'].as_slice() || prefix == ['x', 'm', 'l', 'n', 's'].as_slice()
 }
 
-/// Notes what an attribute declares.
-fn declare(alloc: Global, scope: &mut Scope, attribute: &ReadAttribute) -> Result<(), Memory>
+/// Adds what an attribute declares.
+fn declare(
+    alloc: Global,
+    scope: &mut Sequence<(Sequence<char>, Option<Text>)>,
+    attribute: &ReadAttribute,
+) -> Result<(), Memory>
     ensures { OnOk result (scope.new ≡ scope.old ++ own_bound (attribute.now ∷ [])) }
 {
     if let Some(prefix) = prefix_declared(attribute.name.as_slice()) {
         if !is_fixed(prefix) {
-            scope.push(
-                letters_of(alloc, prefix)?,
-                copy_space(alloc, &attribute.value)?,
-            )?;
+            let space = copy_space(alloc, &attribute.value)?;
+            scope.push((letters_of(alloc, prefix)?, space))?;
         }
     }
     Ok(())
@@ -71,11 +73,11 @@ fn declare(alloc: Global, scope: &mut Scope, attribute: &ReadAttribute) -> Resul
 pub fn scope_of(alloc: Global, attributes: &[ReadAttribute]) -> Result<Scope, Memory>
     ensures { IfOk result (λ s. s ≡ own_bound attributes.now) }
 {
-    let mut scope = Scope::new(alloc);
+    let mut scope = Sequence::new(alloc);
     for attribute in attributes {
         declare(alloc, &mut scope, attribute)?;
     }
-    Ok(scope)
+    Scope::new(alloc, scope)
 }
 
 /// The value, or an empty one.
@@ -189,41 +191,59 @@ fn is_wrong(inside: &Inside, attribute: &ReadAttribute) -> bool
     }
 }
 
-/// Notes what is refused in an attribute, behind others.
-#[tactic(auto, unfolding(crate::specs::Least::lowered))]
-fn note_attribute(
+/// The names of attributes as bound, which declarations don't have.
+///
+/// # Errors
+///
+/// `Memory` only.
+fn read_names(
     alloc: Global,
+    inside: &Inside,
+    attributes: &[ReadAttribute],
+) -> Result<Sequence<Option<Name>>, Memory>
+    ensures { IfOk result (λ names. names ≡ map (λ a. read_name inside.now a.name) attributes.now) }
+{
+    let mut names = Sequence::new(alloc);
+    for attribute in attributes {
+        names.push(inside.read_name(alloc, attribute.name.as_slice())?)?;
+    }
+    Ok(names)
+}
+
+/// Notes what is refused in an attribute of this name as bound, behind others.
+#[tactic(auto, unfolding(crate::specs::Least::lowered))]
+fn note_attribute<'a>(
     least: &mut Least,
     inside: &Inside,
-    seen: &mut Seen,
-    attribute: &ReadAttribute,
+    seen: &mut Seen<'a>,
+    attribute: &'a ReadAttribute,
+    bound: &'a Option<Name>,
 ) -> Result<(), Memory>
+    requires { bound.now ≡ read_name inside.now attribute.now.name }
     ensures least { OnOk result (least.new ≡ lowered least.old (attribute_finds inside.now seen.old attribute.now)) }
     ensures seen { OnOk result (seen.new ≡ names_of inside.now attribute.now ∷ seen.old) }
 {
     let name = attribute.name.as_slice();
-    let bound = inside.read_name(alloc, name)?;
-    least.note_if(
-        is_wrong(inside, attribute),
-        MarkKind::Prefix,
-        attribute.at.get(),
-    );
-    least.note_if(seen.has(name, &bound), MarkKind::Twice, attribute.at.get());
-    seen.push(alloc, name, bound)
+    let at = attribute.at.get();
+    least.note_if(is_wrong(inside, attribute), MarkKind::Prefix, at);
+    least.note_if(seen.has(name, bound), MarkKind::Twice, at);
+    seen.push(name, bound)
 }
 
-/// Notes what is refused in the attributes of a tag.
+/// Notes what is refused in attributes of these names as bound.
 fn note_attributes(
     alloc: Global,
     least: &mut Least,
     inside: &Inside,
     attributes: &[ReadAttribute],
+    names: &[Option<Name>],
 ) -> Result<(), Memory>
+    requires { names.now ≡ map (λ a. read_name inside.now a.name) attributes.now }
     ensures { OnOk result (least.new ≡ lowered least.old (finds_behind inside.now [] attributes.now)) }
 {
     let mut seen = Seen::new(alloc);
-    for attribute in attributes {
-        note_attribute(alloc, least, inside, &mut seen, attribute)?;
+    for i in 0..attributes.len() {
+        note_attribute(least, inside, &mut seen, &attributes[i], &names[i])?;
     }
     Ok(())
 }
@@ -250,6 +270,8 @@ pub fn note_tag(
     ensures { OnOk result (least.new ≡ lowered least.old (tag_finds inside.now tag.now)) }
 {
     note_name(least, inside, tag);
-    note_attributes(alloc, least, inside, tag.attributes.as_slice())?;
+    let attributes = tag.attributes.as_slice();
+    let names = read_names(alloc, inside, attributes)?;
+    note_attributes(alloc, least, inside, attributes, names.as_slice())?;
     Ok(())
 }
