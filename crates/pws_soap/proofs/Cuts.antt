@@ -16,12 +16,12 @@ one_of false b h = inr h
 pub white_low : (c : ℕ) → is_white c ≡ true → c < 128
 white_low c h =
     elim (one_of (c == 32) (c == 9 || (c == 10 || c == 13)) h) [
-      inl e ↦ omega (arith, eqb-true c 32 e)
+      | inl e ↦ omega (arith, eqb-true c 32 e)
       | inr g ↦
-        elim (one_of (c == 9) (c == 10 || c == 13) g) [
-          inl e ↦ omega (arith, eqb-true c 9 e)
-          | inr k ↦ elim (one_of (c == 10) (c == 13) k) [ inl e ↦ omega (arith, eqb-true c 10 e) | inr e ↦ omega (arith, eqb-true c 13 e) ]
-        ]
+          elim (one_of (c == 9) (c == 10 || c == 13) g) [
+            | inl e ↦ omega (arith, eqb-true c 9 e)
+            | inr k ↦ elim (one_of (c == 10) (c == 13) k) [ inl e ↦ omega (arith, eqb-true c 10 e) | inr e ↦ omega (arith, eqb-true c 13 e) ]
+          ]
     ]
 
 pub cut_before : (s : List ℕ) → IsUtf8 s → 0 < prefix_len is_white s → IsCharBoundary s (prefix_len is_white s)

@@ -1,12 +1,11 @@
 -- Elements as children, and the elements among children.
-use Rattle.std.proofs.Common.{◌≡◌, Bool, true, false, ◌&&◌, List, [], ◌∷◌, ◌++◌, map, refl, ap, sym, ◌∙◌, append-nil}
+use Rattle.std.proofs.Common.{◌≡◌, ℕ, suc, ◌+◌, ◌<◌, length, drop, get_or, drop-cons, add-one, Bool, true, false, ◌&&◌, List, [], ◌∷◌, ◌++◌, map, refl, ap, sym, ◌∙◌, append-nil}
 use Rattle.pws_tree.specs.Trees.{Tree, Nodes, NoNode, TextThen, QualifiedThen, ElementThen}
 use Rattle.pws_tree.specs.Nodes.{nodes_of, node_then}
 use Rattle.pws_tree.specs.declared.trees.Node.{Node}
 use Rattle.pws_tree.specs.declared.trees.Node.TheVariants as node
 use Rattle.pws_soap.specs.Envelopes.{nodes_of_trees, element_then, elements, are_texts_white}
 use Rattle.pws_soap.specs.White.{is_all_white}
-use Rattle.std.specs.List.{list_all}
 
 abbrev pub as_nodes : List Tree → List Node
 as_nodes [] = []
@@ -36,6 +35,16 @@ white_of_first (node.Text t) rest = by (is_all_white t) (are_texts_white rest)
     by false b = refl
 white_of_first (node.Qualified m) rest = refl
 
-pub white_all : (ns : List Node) → list_all (λ n. are_texts_white (node_then n NoNode)) ns ≡ are_texts_white (nodes_of ns)
-white_all [] = refl
-white_all (n ∷ ns) = ap (λ z. are_texts_white (node_then n NoNode) && z) (white_all ns) ∙ sym (white_of_first n (nodes_of ns))
+item_at : (ns : List Node) (i : ℕ) (n : Node) → n ≡ get_or ns i n → i < length ns → drop i ns ≡ n ∷ drop (i + 1) ns
+item_at ns i n here within = rw (add-one) (drop-cons ns i n within ∙ ap (λ z. z ∷ drop (suc i) ns) (sym here))
+
+-- one more child
+white_step : (ns : List Node) (i : ℕ) (n : Node) (white : Bool) → n ≡ get_or ns i n → i < length ns → white ≡ are_texts_white (node_then n NoNode) → are_texts_white (nodes_of ns) ≡ are_texts_white (nodes_of (drop i ns)) → are_texts_white (nodes_of ns) ≡ (white && are_texts_white (nodes_of (drop (i + 1) ns)))
+white_step ns i n white here within is h =
+    h ∙ (ap (λ z. are_texts_white (nodes_of z)) (item_at ns i n here within) ∙ (white_of_first n (nodes_of (drop (i + 1) ns)) ∙ ap (λ z. z && are_texts_white (nodes_of (drop (i + 1) ns))) (sym is)))
+
+pub white_fails : (ns : List Node) (i : ℕ) (n : Node) (white : Bool) → n ≡ get_or ns i n → i < length ns → white ≡ are_texts_white (node_then n NoNode) → are_texts_white (nodes_of ns) ≡ are_texts_white (nodes_of (drop i ns)) → white ≡ false → false ≡ are_texts_white (nodes_of ns)
+white_fails ns i n white here within is h f = sym (white_step ns i n white here within is h ∙ ap (λ z. z && are_texts_white (nodes_of (drop (i + 1) ns))) f)
+
+pub white_goes_on : (ns : List Node) (i : ℕ) (n : Node) (white : Bool) → n ≡ get_or ns i n → i < length ns → white ≡ are_texts_white (node_then n NoNode) → are_texts_white (nodes_of ns) ≡ are_texts_white (nodes_of (drop i ns)) → white ≡ true → are_texts_white (nodes_of ns) ≡ are_texts_white (nodes_of (drop (i + 1) ns))
+white_goes_on ns i n white here within is h t = white_step ns i n white here within is h ∙ ap (λ z. z && are_texts_white (nodes_of (drop (i + 1) ns))) t

@@ -53,9 +53,9 @@ value_tag name = refl
 
 value_kept : (name : Name) → is_lawful_name name ≡ true → IsKept 0 (value_tree name)
 value_kept name h = record {
-    sound = both_true (is_lawful_tag (soap_name value_word) [] (QualifiedThen name NoNode)) (are_lawful (QualifiedThen name NoNode)) (value_tag name) (both_true (is_lawful_name name) true h refl);
-    few = omega arith;
-  }
+  sound = both_true (is_lawful_tag (soap_name value_word) [] (QualifiedThen name NoNode)) (are_lawful (QualifiedThen name NoNode)) (value_tag name) (both_true (is_lawful_name name) true h refl);
+  few = omega arith;
+}
 
 subcode_kept : (name : Name) → is_lawful_name name ≡ true → IsKept 1 (subcode_tree name)
 subcode_kept name h = soap_kept 1 subcode_word (element_then (value_tree name) NoNode) subcode_plain (then_plain 0 (value_tree name) NoNode (value_kept name h) (none_plain 1))
@@ -85,13 +85,13 @@ text_kept : (reason : List ℕ) → is_xml_text reason ≡ true → IsKept 0 (te
 text_kept reason h =
     let inner = text_lawful reason h in
     let fits : fits_name (soap_name text_word) (text_nodes reason) ≡ true =
-        ap (λ b. if b then is_one_qualified (text_nodes reason) else not (has_qualified (text_nodes reason))) text_plain.1 ∙ ap not inner.plain in
+    ap (λ b. if b then is_one_qualified (text_nodes reason) else not (has_qualified (text_nodes reason))) text_plain.1 ∙ ap not inner.plain in
     record {
       sound =
-        both_true (is_lawful_tag (soap_name text_word) (language ∷ []) (text_nodes reason)) (are_lawful (text_nodes reason))
-        (both_true (is_lawful_name (soap_name text_word)) (list_all is_lawful_attr (language ∷ []) && fits_name (soap_name text_word) (text_nodes reason)) text_plain.0
-        (both_true (list_all is_lawful_attr (language ∷ [])) (fits_name (soap_name text_word) (text_nodes reason)) language_lawful fits))
-        inner.lawful;
+          both_true (is_lawful_tag (soap_name text_word) (language ∷ []) (text_nodes reason)) (are_lawful (text_nodes reason))
+          (both_true (is_lawful_name (soap_name text_word)) (list_all is_lawful_attr (language ∷ []) && fits_name (soap_name text_word) (text_nodes reason)) text_plain.0
+          (both_true (list_all is_lawful_attr (language ∷ [])) (fits_name (soap_name text_word) (text_nodes reason)) language_lawful fits))
+          inner.lawful;
       few = inner.few;
     }
 

@@ -93,9 +93,9 @@ pub faults_apart : FaultsTellApart
 unfolding fault_of
 faults_apart f g = (
   λ h.
-    let code : f.code ≡ g.code = sym (code_is f) ∙ (ap code_in h ∙ code_is g) in
-    let subcode : f.subcode ≡ g.subcode = sym (subcode_is f) ∙ (ap subcode_in h ∙ subcode_is g) in
-    let reason : f.reason ≡ g.reason = sym (reason_is f) ∙ (ap reason_in h ∙ reason_is g) in
-    λ i. fault_of (code i) (subcode i) (reason i),
+      let code : f.code ≡ g.code = sym (code_is f) ∙ (ap code_in h ∙ code_is g) in
+      let subcode : f.subcode ≡ g.subcode = sym (subcode_is f) ∙ (ap subcode_in h ∙ subcode_is g) in
+      let reason : f.reason ≡ g.reason = sym (reason_is f) ∙ (ap reason_in h ∙ reason_is g) in
+      λ i. fault_of (code i) (subcode i) (reason i),
   λ h. ap fault_tree h,
 )

@@ -31,7 +31,7 @@ few_of t h = omega (arith, leb-true (tree_depth t) 64 (second_true (is_sound t) 
 pub soap_sound : (local : List ℕ) (children : Nodes) → is_lawful_name (soap_name local) ≡ true → is_value (soap_name local) ≡ false → has_qualified children ≡ false → are_lawful children ≡ true → is_sound (soap_tree local children) ≡ true
 soap_sound local children named other plain lawful =
     let fits : fits_name (soap_name local) children ≡ true =
-        ap (λ b. if b then is_one_qualified children else not (has_qualified children)) other ∙ ap not plain in
+    ap (λ b. if b then is_one_qualified children else not (has_qualified children)) other ∙ ap not plain in
     both_true (is_lawful_tag (soap_name local) [] children) (are_lawful children)
     (both_true (is_lawful_name (soap_name local)) (fits_name (soap_name local) children) named fits)
     lawful
@@ -88,10 +88,10 @@ none_plain n = record { lawful = refl; plain = refl; few = omega arith }
 
 pub then_plain : (n : ℕ) (t : Tree) (rest : Nodes) → IsKept n t → IsPlain (n + 1) rest → IsPlain (n + 1) (element_then t rest)
 then_plain n t rest kept more = record {
-    lawful = then_lawful t rest kept.sound more.lawful;
-    plain = more.plain;
-    few = omega (arith, kept.few, more.few);
-  }
+  lawful = then_lawful t rest kept.sound more.lawful;
+  plain = more.plain;
+  few = omega (arith, kept.few, more.few);
+}
 
 pub kept_lawful : (t : Tree) → IsKept 63 t → IsTrue (is_lawful t)
 kept_lawful t kept = lawful_of t kept.sound kept.few
@@ -105,6 +105,6 @@ header_plainly (t ∷ ts) rest h more =
 pub root_kept : (e : Enveloped) → AreKept 61 e.headers → IsPlain 62 e.body → IsTrue (is_lawful (root_of e))
 root_kept e headers body =
     let around : IsPlain 63 (element_then (soap_tree body_word e.body) NoNode) =
-        then_plain 62 (soap_tree body_word e.body) NoNode (soap_kept 62 body_word e.body body_plain body) (none_plain 63) in
+    then_plain 62 (soap_tree body_word e.body) NoNode (soap_kept 62 body_word e.body body_plain body) (none_plain 63) in
     kept_lawful (root_of e) (soap_kept 63 envelope_word (header_then e.headers (element_then (soap_tree body_word e.body) NoNode)) envelope_plain
     (header_plainly e.headers (element_then (soap_tree body_word e.body) NoNode) headers around))

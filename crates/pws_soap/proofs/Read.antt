@@ -8,9 +8,11 @@ use Rattle.pws_tree.specs.Names.{is_lawful_name, is_lawful_attr, ascend, is_valu
 use Rattle.pws_tree.specs.Lawful.{is_lawful, is_lawful_tag, are_lawful, fits_name, levels, has_qualified, is_one_qualified, is_lawful_text, starts_with_text}
 use Rattle.pws_tree.specs.Trees.{Tree, Nodes, NoNode, TextThen, ElementThen, QualifiedThen}
 use Rattle.pws_tree.specs.declared.texts.Name.{Name}
-use Rattle.pws_soap.specs.Names.{is_soap_name, soap_name, header_word, body_word}
+use Rattle.pws_soap.specs.Names.{is_soap_name, soap_name, envelope_word, header_word, body_word}
 use Rattle.pws_soap.specs.Blocks.{is_well_marked}
-use Rattle.pws_soap.specs.Envelopes.{Enveloped, Parts, elements, are_texts_white, parts_of, blocks_then, blocks_of, in_order, root_of}
+use Rattle.pws_soap.specs.Envelopes.{Enveloped, Parts, elements, are_texts_white, parts_of, blocks_then, blocks_of, in_order, understood, envelope_of, Answers, root_of}
+use Rattle.pws_soap.specs.declared.errors.SoapError.{SoapError}
+use Rattle.pws_soap.specs.declared.errors.SoapError.TheVariants as soap_error
 use Rattle.pws_soap.proofs.Joined.{first_true, second_true, both_true, chosen, IsChosen}
 use Rattle.pws_soap.proofs.Lawful.{is_sound, sound_of, few_of, IsKept, AreKept, IsPlain, none_plain, body_plain, root_kept}
 
@@ -103,3 +105,31 @@ read_lawful t e lawful h =
     let kept : AreKept 62 (elements t.children) = elements_kept 62 t.children (second_true (is_lawful_tag t.name t.attrs t.children) (are_lawful t.children) (sound_of t lawful)) (few_of t lawful) in
     let found = by_parts (elements t.children) (parts_of (elements t.children)) e refl kept (by_white (are_texts_white t.children) (blocks_of (parts_of (elements t.children))) e h) in
     root_kept e found.headers found.body
+
+-- header blocks that are in order
+pub blocks_found : (p : Parts) (headers : List Tree) → are_texts_white p.header ≡ true → headers ≡ elements p.header → list_all is_well_marked headers ≡ true → Some (let e : Enveloped = record { headers = headers; body = p.body } in e) ≡ blocks_then p
+blocks_found p headers white at marks =
+    let marked : list_all is_well_marked (elements p.header) ≡ true = ap (list_all is_well_marked) (sym at) ∙ marks in
+    let both : (are_texts_white p.header && list_all is_well_marked (elements p.header)) ≡ true = both_true (are_texts_white p.header) (list_all is_well_marked (elements p.header)) white marked in
+    ap (λ hs. Some (let e : Enveloped = record { headers = hs; body = p.body } in e)) at
+    ∙ sym (ap (λ b. if b then Some (let e : Enveloped = record { headers = elements p.header; body = p.body } in e) else None) both)
+
+-- a root of another name
+pub other_name : (t : Tree) → bytes_eq t.name.local envelope_word ≡ false → envelope_of t ≡ Err soap_error.NotEnvelope
+unfolding envelope_of
+other_name t h = ap (λ b. if not b then Err soap_error.NotEnvelope else if not (bytes_eq t.name.space envelope_space) then Err soap_error.Version else understood (in_order t.children)) h
+
+pub other_space : (t : Tree) → bytes_eq t.name.local envelope_word ≡ true → bytes_eq t.name.space envelope_space ≡ false → envelope_of t ≡ Err soap_error.Version
+unfolding envelope_of
+other_space t h g =
+    ap (λ b. if not b then Err soap_error.NotEnvelope else if not (bytes_eq t.name.space envelope_space) then Err soap_error.Version else understood (in_order t.children)) h
+    ∙ ap (λ b. if not b then Err soap_error.Version else understood (in_order t.children)) g
+
+own_name : (t : Tree) → bytes_eq t.name.local envelope_word ≡ true → bytes_eq t.name.space envelope_space ≡ true → envelope_of t ≡ understood (in_order t.children)
+unfolding envelope_of
+own_name t h g =
+    ap (λ b. if not b then Err soap_error.NotEnvelope else if not (bytes_eq t.name.space envelope_space) then Err soap_error.Version else understood (in_order t.children)) h
+    ∙ ap (λ b. if not b then Err soap_error.Version else understood (in_order t.children)) g
+
+pub answers_on : (t : Tree) (answer : Result Enveloped SoapError) → bytes_eq t.name.local envelope_word ≡ true → bytes_eq t.name.space envelope_space ≡ true → Answers (understood (in_order t.children)) answer → Answers (envelope_of t) answer
+answers_on t answer h g a = let P : Result Enveloped SoapError → Type 0 = λ wanted. Answers wanted answer in subst P (sym (own_name t h g)) a

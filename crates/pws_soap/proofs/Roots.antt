@@ -88,6 +88,7 @@ was_marked children e h = by_white (are_texts_white children) h
     by_parts (Some p) g =
         let c = chosen (are_texts_white p.header && list_all is_well_marked (elements p.header)) (let d : Enveloped = record { headers = elements p.header; body = p.body } in d) e g in
         ap (λ z. list_all is_well_marked z.headers) (sym c.is) ∙ second_true (are_texts_white p.header) (list_all is_well_marked (elements p.header)) c.asked
+
     by_white : (white : Bool) → (if white then blocks_of (parts_of (elements children)) else None) ≡ Some e → list_all is_well_marked e.headers ≡ true
     by_white true g = by_parts (parts_of (elements children)) g
     by_white false g = let f : ◌≡◌ {A = Option Enveloped} None (Some e) = g in cc

@@ -108,11 +108,7 @@ fn envelope_element(alloc: Global, parts: Vec<Node>) -> Result<Element, Memory>
 }
 
 /// What an Envelope contains: a Header, where there are header blocks, and a Body.
-fn root_children(
-    alloc: Global,
-    headers: Vec<Element>,
-    body: Vec<Node>,
-) -> Result<Vec<Node>, Memory>
+fn root_children(alloc: Global, headers: Vec<Element>, body: Vec<Node>) -> Result<Vec<Node>, Memory>
     requires { IsTrue (is_lawful (root_of (record { headers = headers.items; body = nodes_of body.items }))) }
     ensures { IfOk result (λ nodes. nodes_of nodes.items ≡ (root_of (record { headers = headers.items; body = nodes_of body.items })).children) }
 {

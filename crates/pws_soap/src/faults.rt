@@ -196,11 +196,7 @@ fn code_children(
 
 /// The `Code` of a fault.
 #[tactic(auto, unfolding(crate::specs::Names::code_word))]
-fn code_element(
-    alloc: Global,
-    code: FaultCode,
-    subcode: &Option<Name>,
-) -> Result<Element, Memory>
+fn code_element(alloc: Global, code: FaultCode, subcode: &Option<Name>) -> Result<Element, Memory>
     requires { IsTrue (is_lawful_subcode subcode.now) }
     ensures { IfOk result (λ t. t ≡ code_tree code subcode.now) }
 {

@@ -1,12 +1,15 @@
 //! The envelope that a tree is.
 
 ghost use Rattle.std.specs.Prelude.{◌≡◌, ◌++◌, IfOk, OnOk, option_map};
-ghost use Rattle.std.specs.Option.{is_some};
-ghost use Rattle.std.specs.List.{list_all};
+ghost use Rattle.std.specs.Option.{is_some, option_copied};
+ghost use Rattle.std.specs.List.{list_all, find};
+ghost use Rattle.std.specs.Str.{bytes_eq};
+ghost use Rattle.pws_tree.specs.Names.{envelope_space};
 ghost use Rattle.pws_tree.specs.Nodes.{node_then, nodes_of};
 ghost use Rattle.pws_tree.specs.Trees.{NoNode};
-ghost use Rattle.pws_soap.specs.Blocks.{is_well_marked};
-ghost use Rattle.pws_soap.specs.Envelopes.{elements, are_texts_white, parts_of, blocks_then, in_order, envelope_of, Answers};
+ghost use Rattle.pws_soap.specs.Names.{envelope_word};
+ghost use Rattle.pws_soap.specs.Blocks.{is_well_marked, is_not_understood};
+ghost use Rattle.pws_soap.specs.Envelopes.{elements, are_texts_white, parts_of, blocks_then, in_order, understood, envelope_of, Answers};
 ghost use Rattle.pws_soap.specs.Opened.{parts_seen, envelope_seen};
 
 use crate::blocks::{is_not_understood, is_well_marked};
@@ -68,7 +71,12 @@ fn is_text_white(child: &Node) -> bool
 fn are_texts_white(children: &[Node]) -> bool
     ensures { result ≡ are_texts_white (nodes_of children.now) }
 {
-    children.iter().all(is_text_white)
+    for child in children {
+        if !is_text_white(child) {
+            return false;
+        }
+    }
+    true
 }
 
 /// Whether elements are an optional Header and one Body.
@@ -105,6 +113,13 @@ fn parts_of(alloc: Global, mut elements: Vec<Element>) -> Option<Parts>
     }
 }
 
+/// Whether the marks of all these header blocks are truth values.
+fn are_well_marked(headers: &[Element]) -> bool
+    ensures { result ≡ list_all is_well_marked headers.now }
+{
+    headers.iter().all(is_well_marked)
+}
+
 /// The header blocks and the body, where the header blocks are in order.
 fn blocks_of(alloc: Global, parts: Parts) -> Result<Option<Opened>, Memory>
     ensures { IfOk result (λ found. option_map envelope_seen found ≡ blocks_then (parts_seen parts)) }
@@ -114,7 +129,7 @@ fn blocks_of(alloc: Global, parts: Parts) -> Result<Option<Opened>, Memory>
         return Ok(None);
     }
     let headers = elements_of(alloc, header)?;
-    if !headers.iter().all(is_well_marked) {
+    if !are_well_marked(headers.as_slice()) {
         return Ok(None);
     }
     Ok(Some(Opened { headers, body }))
@@ -133,16 +148,41 @@ fn in_order(alloc: Global, children: Vec<Node>) -> Result<Option<Opened>, Memory
     }
 }
 
-/// Refuses a root that isn't named as an envelope.
+/// The first of these header blocks that isn't understood.
+fn first_not_understood(headers: &[Element]) -> Option<&Element>
+    ensures { option_copied result ≡ find is_not_understood headers.now }
+{
+    headers.iter().find(|block| is_not_understood(block))
+}
+
+/// The envelope that a root is, whatever its name.
+fn judged(alloc: Global, root: Element) -> Result<Envelope, SoapError>
+    ensures { Answers (understood (in_order root.children)) result }
+{
+    let _levels = root.depth();
+    let Some(Opened { headers, body }) = in_order(alloc, root.into_children())? else {
+        return Err(SoapError::Order);
+    };
+    if let Some(block) = first_not_understood(headers.as_slice()) {
+        return Err(SoapError::MustUnderstand(block.name().copy(alloc)?));
+    }
+    Ok(Envelope::of_lawful(headers, body))
+}
+
+/// Whether the local part of a name is `Envelope`.
 #[tactic(auto, unfolding(crate::specs::Names::envelope_word))]
-fn check_name(name: &Name) -> Result<(), SoapError> {
-    if name.local.as_str() != "Envelope" {
-        return Err(SoapError::NotEnvelope);
-    }
-    if name.space.as_str() != ENVELOPE_SPACE {
-        return Err(SoapError::Version);
-    }
-    Ok(())
+fn is_envelope_word(name: &Name) -> bool
+    ensures { result ≡ bytes_eq name.now.local envelope_word }
+{
+    name.local.as_str() == "Envelope"
+}
+
+/// Whether a name is in the envelope namespace.
+#[tactic(auto, unfolding(pws_tree::specs::Names::envelope_space))]
+fn is_envelope_space(name: &Name) -> bool
+    ensures { result ≡ bytes_eq name.now.space envelope_space }
+{
+    name.space.as_str() == ENVELOPE_SPACE
 }
 
 /// The envelope that a tree is: SOAP 1.2 Part 1, sections 5.1 to 5.3. The attributes of Envelope, Header and Body, and the
@@ -158,13 +198,11 @@ fn check_name(name: &Name) -> Result<(), SoapError> {
 pub fn envelope_of(alloc: Global, root: Element) -> Result<Envelope, SoapError>
     ensures { Answers (envelope_of root) result }
 {
-    check_name(root.name())?;
-    let _lawful = root.depth();
-    let Some(Opened { headers, body }) = in_order(alloc, root.into_children())? else {
-        return Err(SoapError::Order);
-    };
-    if let Some(block) = headers.iter().find(|block| is_not_understood(block)) {
-        return Err(SoapError::MustUnderstand(block.name().copy(alloc)?));
+    if !is_envelope_word(root.name()) {
+        return Err(SoapError::NotEnvelope);
     }
-    Ok(Envelope::of_lawful(headers, body))
+    if !is_envelope_space(root.name()) {
+        return Err(SoapError::Version);
+    }
+    judged(alloc, root)
 }

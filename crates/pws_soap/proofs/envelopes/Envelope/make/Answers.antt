@@ -17,8 +17,8 @@ of_lawful-requires c =
 pub returns-else-are_few : goal.returns-else-are_few
 returns-else-are_few c =
     elim c.else-are_few.branch [
-      else-are_few-via-then-are_few+else-is_lawful_body w ↦
-        (λ lawful. not_true _ (ap (λ z. is_lawful_body (nodes_of z)) (sym w.as_slice-then-are_few.ensures.value) ∙ (sym w.is_lawful_body.ensures ∙ w.if-is_lawful_body.false)) (root_fits _ _ lawful))
+      | else-are_few-via-then-are_few+else-is_lawful_body w ↦
+          (λ lawful. not_true _ (ap (λ z. is_lawful_body (nodes_of z)) (sym w.as_slice-then-are_few.ensures.value) ∙ (sym w.is_lawful_body.ensures ∙ w.if-is_lawful_body.false)) (root_fits _ _ lawful))
       | else-are_few-via-else-are_few w ↦
-        (λ lawful. not_true _ (ap (list_all has_few_levels) (sym c.as_slice-2.ensures.value) ∙ (sym c.are_few.ensures ∙ w.if-are_few.false)) (root_few _ _ lawful))
+          (λ lawful. not_true _ (ap (list_all has_few_levels) (sym c.as_slice-2.ensures.value) ∙ (sym c.are_few.ensures ∙ w.if-are_few.false)) (root_few _ _ lawful))
     ]
