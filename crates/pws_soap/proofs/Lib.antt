@@ -1,0 +1,9 @@
+pub mod Elements
+pub mod FaultsApart
+pub mod FaultTrees
+pub mod Joined
+pub mod Lawful
+pub mod Made
+pub mod Read
+pub mod Roots
+pub mod Cuts

@@ -1,10 +1,10 @@
 //! Envelopes.
 
-ghost use Rattle.std.specs.Prelude.{◌≡◌, ◌↔◌, ◌≤◌, IfOk, OnOk, OnErr, IsTrue};
-ghost use Rattle.std.specs.List.{All, list_all};
-ghost use Rattle.pws_tree.specs.Lawful.{is_lawful, tree_depth};
+ghost use Rattle.std.specs.Prelude.{◌≡◌, IfOk, OnOk, OnErr, IsTrue};
+ghost use Rattle.std.specs.List.{list_all};
+ghost use Rattle.pws_tree.specs.Lawful.{is_lawful};
 ghost use Rattle.pws_tree.specs.Nodes.{nodes_of};
-ghost use Rattle.pws_soap.specs.Names.{header_word};
+ghost use Rattle.pws_soap.specs.Names.{envelope_word, header_word, body_word};
 ghost use Rattle.pws_soap.specs.Envelopes.{soap_tree, nodes_of_trees, root_of};
 ghost use Rattle.pws_soap.specs.Faults.{envelope_around};
 ghost use Rattle.pws_soap.specs.Made.{MakesEnvelope, with_headers, has_few_levels, is_lawful_body};
@@ -89,6 +89,50 @@ fn header_element(alloc: Global, headers: Vec<Element>) -> Result<Element, Memor
     soap_element(alloc, "Header", children)
 }
 
+/// The Body of this content.
+#[tactic(auto, unfolding(crate::specs::Names::body_word))]
+fn body_element(alloc: Global, body: Vec<Node>) -> Result<Element, Memory>
+    requires { IsTrue (is_lawful (soap_tree body_word (nodes_of body.items))) }
+    ensures { IfOk result (λ t. t ≡ soap_tree body_word (nodes_of body.items)) }
+{
+    soap_element(alloc, "Body", body)
+}
+
+/// The Envelope of these parts.
+#[tactic(auto, unfolding(crate::specs::Names::envelope_word))]
+fn envelope_element(alloc: Global, parts: Vec<Node>) -> Result<Element, Memory>
+    requires { IsTrue (is_lawful (soap_tree envelope_word (nodes_of parts.items))) }
+    ensures { IfOk result (λ t. t ≡ soap_tree envelope_word (nodes_of parts.items)) }
+{
+    soap_element(alloc, "Envelope", parts)
+}
+
+/// What an Envelope contains: a Header, where there are header blocks, and a Body.
+fn root_children(
+    alloc: Global,
+    headers: Vec<Element>,
+    body: Vec<Node>,
+) -> Result<Vec<Node>, Memory>
+    requires { IsTrue (is_lawful (root_of (record { headers = headers.items; body = nodes_of body.items }))) }
+    ensures { IfOk result (λ nodes. nodes_of nodes.items ≡ (root_of (record { headers = headers.items; body = nodes_of body.items })).children) }
+{
+    let body = body_element(alloc, body)?;
+    if headers.is_empty() {
+        return Ok(vec![in alloc; Node::Element(body)]?);
+    }
+    let header = header_element(alloc, headers)?;
+    Ok(vec![in alloc; Node::Element(header), Node::Element(body)]?)
+}
+
+/// All elements are lawful; each is read, so that this is known of all.
+fn note_lawful(elements: &[Element])
+    ensures { IsTrue (list_all is_lawful elements.now) }
+{
+    for element in elements {
+        let _levels = element.depth();
+    }
+}
+
 /// Whether each of these header blocks has at most 62 levels.
 fn are_few(headers: &[Element]) -> bool
     ensures { result ≡ list_all has_few_levels headers.now }
@@ -120,6 +164,7 @@ impl Envelope {
     pub fn make(headers: Vec<Element>, body: Vec<Node>) -> Result<Envelope, BadTree>
         ensures { MakesEnvelope headers.items (nodes_of body.items) result }
     {
+        note_lawful(headers.as_slice());
         if are_few(headers.as_slice()) && is_lawful_body(body.as_slice()) {
             Ok(Envelope::of_lawful(headers, body))
         } else {
@@ -133,9 +178,10 @@ impl Envelope {
     ///
     /// `Memory` only.
     pub fn around(alloc: Global, element: Element) -> Result<Envelope, Memory>
-        requires { tree_depth element ≤ 62 }
+        requires { IsTrue (has_few_levels element) }
         ensures { IfOk result (λ e. e ≡ envelope_around element) }
     {
+        let _levels = element.depth();
         let body = vec![in alloc; Node::Element(element)]?;
         Ok(Envelope::of_lawful(Vec::new(alloc), body))
     }
@@ -160,10 +206,11 @@ impl Envelope {
     ///
     /// `Memory` only; nothing is added then.
     pub fn append_headers(&mut self, mut headers: Vec<Element>) -> Result<(), Memory>
-        requires { All (λ t. tree_depth t ≤ 62) headers.items }
+        requires { IsTrue (list_all has_few_levels headers.items) }
         ensures ok { OnOk result (self.new ≡ with_headers self.old headers.items) }
         ensures err { OnErr result (self.new ≡ self.old) }
     {
+        note_lawful(headers.as_slice());
         self.headers.append(&mut headers)?;
         Ok(())
     }
@@ -189,14 +236,8 @@ impl Envelope {
         ensures { IfOk result (λ t. t ≡ root_of self) }
     {
         let Envelope { headers, body } = self;
-        let body = soap_element(alloc, "Body", body)?;
-        let parts = if headers.is_empty() {
-            vec![in alloc; Node::Element(body)]?
-        } else {
-            let header = header_element(alloc, headers)?;
-            vec![in alloc; Node::Element(header), Node::Element(body)]?
-        };
-        soap_element(alloc, "Envelope", parts)
+        let children = root_children(alloc, headers, body)?;
+        envelope_element(alloc, children)
     }
 }
 

@@ -176,11 +176,16 @@ fn code_value(alloc: Global, code: FaultCode) -> Result<Element, Memory>
 }
 
 /// What a `Code` contains: its `Value`, and behind it the `Subcode`, where there is one.
-fn code_children(alloc: Global, fault: &Fault) -> Result<Vec<Node>, Memory>
-    ensures { IfOk result (λ nodes. nodes_of nodes.items ≡ code_nodes fault.now.code fault.now.subcode) }
+fn code_children(
+    alloc: Global,
+    code: FaultCode,
+    subcode: &Option<Name>,
+) -> Result<Vec<Node>, Memory>
+    requires { IsTrue (is_lawful_subcode subcode.now) }
+    ensures { IfOk result (λ nodes. nodes_of nodes.items ≡ code_nodes code subcode.now) }
 {
-    let value = code_value(alloc, fault.code)?;
-    match &fault.subcode {
+    let value = code_value(alloc, code)?;
+    match subcode {
         Some(name) => {
             let subcode = subcode_element(alloc, name.copy(alloc)?)?;
             Ok(vec![in alloc; Node::Element(value), Node::Element(subcode)]?)
@@ -191,10 +196,15 @@ fn code_children(alloc: Global, fault: &Fault) -> Result<Vec<Node>, Memory>
 
 /// The `Code` of a fault.
 #[tactic(auto, unfolding(crate::specs::Names::code_word))]
-fn code_element(alloc: Global, fault: &Fault) -> Result<Element, Memory>
-    ensures { IfOk result (λ t. t ≡ code_tree fault.now.code fault.now.subcode) }
+fn code_element(
+    alloc: Global,
+    code: FaultCode,
+    subcode: &Option<Name>,
+) -> Result<Element, Memory>
+    requires { IsTrue (is_lawful_subcode subcode.now) }
+    ensures { IfOk result (λ t. t ≡ code_tree code subcode.now) }
 {
-    let children = code_children(alloc, fault)?;
+    let children = code_children(alloc, code, subcode)?;
     soap_element(alloc, "Code", children)
 }
 
@@ -237,10 +247,11 @@ fn text_element(alloc: Global, reason: &Text) -> Result<Element, Memory>
 
 /// The `Reason` of a fault.
 #[tactic(auto, unfolding(crate::specs::Names::reason_word))]
-fn reason_element(alloc: Global, fault: &Fault) -> Result<Element, Memory>
-    ensures { IfOk result (λ t. t ≡ reason_tree fault.now.reason) }
+fn reason_element(alloc: Global, reason: &Text) -> Result<Element, Memory>
+    requires { IsTrue (is_xml_text reason.now) }
+    ensures { IfOk result (λ t. t ≡ reason_tree reason.now) }
 {
-    let text = text_element(alloc, &fault.reason)?;
+    let text = text_element(alloc, reason)?;
     let children = vec![in alloc; Node::Element(text)]?;
     soap_element(alloc, "Reason", children)
 }
@@ -250,8 +261,8 @@ fn reason_element(alloc: Global, fault: &Fault) -> Result<Element, Memory>
 fn fault_element(alloc: Global, fault: &Fault) -> Result<Element, Memory>
     ensures { IfOk result (λ t. t ≡ fault_tree fault.now) }
 {
-    let code = code_element(alloc, fault)?;
-    let reason = reason_element(alloc, fault)?;
+    let code = code_element(alloc, fault.code, &fault.subcode)?;
+    let reason = reason_element(alloc, &fault.reason)?;
     let children = vec![in alloc; Node::Element(code), Node::Element(reason)]?;
     soap_element(alloc, "Fault", children)
 }
