@@ -5,3 +5,4 @@ pub mod Hexadecimal
 pub mod Laws
 pub mod Spelled
 pub mod Statuses
+pub mod Words

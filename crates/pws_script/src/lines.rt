@@ -20,7 +20,7 @@ use std::marker::Model;
 
 /// A line without its line feed, and whether it has one.
 #[derive(Clone, Copy, Debug)]
-pub(crate) struct TextLine<'a> {
+pub struct TextLine<'a> {
     pub bytes: &'a [u8],
     pub ended: bool,
 }
@@ -34,7 +34,7 @@ fn line_feed(text: &[u8]) -> Option<usize>
 
 /// The lines of a text that remain.
 #[derive(Drop)]
-pub(crate) struct Lines<'a> {
+pub struct Lines<'a> {
     rest: &'a [u8],
 }
 

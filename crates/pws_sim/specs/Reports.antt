@@ -2,31 +2,20 @@
 use Rattle.std.specs.Prelude.{ℕ, List, ◌++◌, flat_map, codes, decimal, Option, Some, None}
 use Rattle.std.specs.List.{enumerate_from}
 use Rattle.hex.specs.Hex.{encode_lower}
-use Rattle.pws_event.specs.Requests.{RequestFields}
 use Rattle.pws_event.specs.Lists.{PlacedEvent}
 use Rattle.pws_event.specs.declared.events.Event.{Event}
 use Rattle.pws_event.specs.declared.events.Event.TheVariants as event
+use Rattle.pws_sched.specs.Words.{event_words}
 
--- a request that took effect
-abbrev pub request_words : RequestFields → List ℕ
-request_words r = codes "request " ++ decimal r.caller ++ codes " " ++ decimal r.number ++ codes " taken"
+-- requests of the replica's list always take effect, and all else is void, since the replica calls and asks nothing
+abbrev pub fate : Event → List ℕ
+fate (event.Request r) = codes " taken"
+fate e = codes " void"
 
--- an answer to a call, or to an ask, that is void, since the replica calls and asks nothing
-abbrev pub call_words : List ℕ → ℕ → ℕ → List ℕ
-call_words kind called number = kind ++ codes " " ++ decimal called ++ codes " " ++ decimal number ++ codes " void"
-
-abbrev pub ask_words : List ℕ → ℕ → List ℕ
-ask_words kind ask = kind ++ codes " " ++ decimal ask ++ codes " void"
-
--- what stands at a place, and whether it took effect: the requests of the replica's list always do, all else never
+-- what stands at a place, and whether it took effect
 abbrev pub what_of : Option Event → List ℕ
 what_of None = codes "bare void"
-what_of (Some event.Null) = codes "null void"
-what_of (Some (event.Request r)) = request_words r
-what_of (Some (event.Reply r)) = call_words (codes "reply") r.called r.number
-what_of (Some (event.Abort a)) = call_words (codes "abort") a.called a.number
-what_of (Some (event.Clock c)) = ask_words (codes "clock") c.ask
-what_of (Some (event.Random r)) = ask_words (codes "random") r.ask
+what_of (Some e) = event_words e ++ fate e
 
 -- a place's number, what stands there, and its digest in hexadecimal
 abbrev pub place_line : ℕ → PlacedEvent → List ℕ

@@ -2,53 +2,37 @@
 
 ghost use Rattle.std.specs.Prelude.{◌≡◌, IfOk, string_bytes};
 ghost use Rattle.std.specs.Option.{option_copied};
-ghost use Rattle.pws_sim.specs.Reports.{request_words, call_words, ask_words, what_of, place_line, report_of};
+ghost use Rattle.pws_sim.specs.Reports.{fate, what_of, place_line, report_of};
 
 use pws_base::bytes::Bytes;
 use pws_base::memory::Memory;
-use pws_base::shapes::{GroupId, Number, Place};
+use pws_base::shapes::Place;
 use pws_base::writers::Writer;
 use pws_event::events::Event;
 use pws_event::lists::EventList;
-use pws_event::requests::Request;
+use pws_sched::words::event_words;
 use std::alloc::Global;
 
-/// The words for a request that took effect.
-fn request_words(alloc: Global, request: &Request) -> Result<String, Memory>
-    ensures { IfOk result (λ words. string_bytes words ≡ request_words request.now) }
+/// Whether an event took effect.
+fn fate(event: &Event) -> &'static str
+    ensures { result.now ≡ fate event.now }
 {
-    let caller = request.caller();
-    let number = request.number();
-    Ok(format!(in alloc; "request {caller} {number} taken")?)
-}
-
-/// The words for an answer to a call, which is void.
-fn call_words(alloc: Global, kind: &str, called: GroupId, number: Number) -> Result<String, Memory>
-    ensures { IfOk result (λ words. string_bytes words ≡ call_words kind.now called number) }
-{
-    Ok(format!(in alloc; "{kind} {called} {number} void")?)
-}
-
-/// The words for an answer to an ask, which is void.
-fn ask_words(alloc: Global, kind: &str, ask: u32) -> Result<String, Memory>
-    ensures { IfOk result (λ words. string_bytes words ≡ ask_words kind.now ask) }
-{
-    Ok(format!(in alloc; "{kind} {ask} void")?)
+    match event {
+        Event::Request(_) => " taken",
+        _ => " void",
+    }
 }
 
 /// The words for what stands at a place, and whether it took effect.
 fn what_of(alloc: Global, event: Option<&Event>) -> Result<String, Memory>
     ensures { IfOk result (λ words. string_bytes words ≡ what_of (option_copied event.entry)) }
 {
-    match event {
-        None => Ok(format!(in alloc; "bare void")?),
-        Some(Event::Null) => Ok(format!(in alloc; "null void")?),
-        Some(Event::Request(request)) => request_words(alloc, request),
-        Some(Event::Reply(reply)) => call_words(alloc, "reply", reply.called(), reply.number()),
-        Some(Event::Abort(abort)) => call_words(alloc, "abort", abort.called(), abort.number()),
-        Some(Event::Clock(clock)) => ask_words(alloc, "clock", clock.ask()),
-        Some(Event::Random(random)) => ask_words(alloc, "random", random.ask()),
-    }
+    let Some(event) = event else {
+        return Ok(format!(in alloc; "bare void")?);
+    };
+    let words = event_words(alloc, event)?;
+    let fate = fate(event);
+    Ok(format!(in alloc; "{words}{fate}")?)
 }
 
 /// The line for a place.

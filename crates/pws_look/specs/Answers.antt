@@ -1,0 +1,123 @@
+-- What is said of one text; this project's own.
+use Rattle.std.specs.Prelude.{◌≡◌, ℕ, Bool, true, false, List, ◌++◌, length, codes, decimal, Option, Some, None, Result, Ok, Err}
+use Rattle.hex.specs.Hex.{encode_lower}
+use Rattle.pws_base.specs.declared.fields.FieldFault.{FieldFault}
+use Rattle.pws_event.specs.EventFields.{event_of}
+use Rattle.pws_event.specs.Events.{digest_of}
+use Rattle.pws_event.specs.declared.events.Event.{Event}
+use Rattle.pws_msg.specs.Packets.{PacketFields}
+use Rattle.pws_msg.specs.PacketFields.{packet_of}
+use Rattle.pws_msg.specs.declared.contents.Content.{Content}
+use Rattle.pws_msg.specs.declared.contents.Content.TheVariants as content
+use Rattle.pws_msg.specs.declared.errors.PacketError.{PacketError}
+use Rattle.pws_msg.specs.declared.errors.PacketFault.{PacketFault}
+use Rattle.pws_msg.specs.declared.errors.PacketFault.TheVariants as fault
+use Rattle.pws_sched.specs.Words.{event_words}
+use Rattle.pws_script.specs.Scripts.{Reads}
+use Rattle.pws_script.specs.declared.faults.ReadScriptError.TheVariants as read_error
+use Rattle.pws_script.specs.declared.faults.ScriptError.{ScriptError}
+use Rattle.pws_script.specs.declared.faults.ScriptFault.{ScriptFault}
+use Rattle.pws_script.specs.declared.faults.ScriptFault.TheVariants as script_fault
+use Rattle.pws_script.specs.declared.instructions.Instruction.{Instruction}
+use Rattle.pws_look.specs.declared.answers.Answer.{Answer}
+use Rattle.pws_look.specs.declared.words.Kind.{Kind}
+use Rattle.pws_look.specs.declared.words.Kind.TheVariants as kind
+
+abbrev pub good : List ℕ → Answer
+good line = record { line = line; good = true }
+
+abbrev pub refused : List ℕ → Answer
+refused line = record { line = line; good = false }
+
+-- ---- events
+
+-- what the event is and its digest, or the place of the refusal
+abbrev pub event_line : Event → List ℕ
+event_line e = codes "ok " ++ event_words e ++ codes " " ++ encode_lower (digest_of e)
+
+abbrev pub event_answer : Result Event FieldFault → Answer
+event_answer (Ok e) = good (event_line e)
+event_answer (Err f) = refused (codes "at " ++ decimal f.at)
+
+-- ---- packets
+
+-- the names of contents, by the table in docs/FORMATS.md
+abbrev pub content_name : Content → List ℕ
+content_name (content.Request x) = codes "REQ"
+content_name (content.Reply x) = codes "REPLY"
+content_name (content.Part x) = codes "PART"
+content_name (content.Expired x) = codes "EXPIRED"
+content_name (content.Reading x) = codes "READING"
+content_name (content.PrePrepare x) = codes "PRE_PREPARE"
+content_name (content.Prepare x) = codes "PREPARE"
+content_name (content.Commit x) = codes "COMMIT"
+content_name (content.Checkpoint x) = codes "CHECKPOINT"
+content_name (content.ViewChange x) = codes "VIEW_CHANGE"
+content_name (content.Ack x) = codes "ACK"
+content_name (content.NewView x) = codes "NEW_VIEW"
+content_name (content.Relay x) = codes "RELAY"
+content_name (content.Fetch x) = codes "FETCH"
+content_name (content.Done x) = codes "DONE"
+content_name (content.Need x) = codes "NEED"
+content_name (content.Give x) = codes "GIVE"
+
+abbrev pub body_words : Option (List ℕ) → List ℕ
+body_words None = codes "-"
+body_words (Some body) = decimal (length body)
+
+abbrev pub packet_words : PacketFields → List ℕ
+packet_words p =
+    codes "ok " ++ content_name p.content
+    ++ codes " " ++ decimal p.sender.group ++ codes "." ++ decimal p.sender.index
+    ++ codes " to " ++ decimal p.receiver
+    ++ codes " tags " ++ decimal (length p.tags)
+    ++ codes " body " ++ body_words p.body
+    ++ codes " vouchers " ++ decimal (length p.vouchers)
+
+abbrev pub fault_word : PacketFault → List ℕ
+fault_word fault.Long = codes "Long"
+fault_word fault.Short = codes "Short"
+fault_word fault.Magic = codes "Magic"
+fault_word fault.Version = codes "Version"
+fault_word fault.Kind = codes "Kind"
+fault_word fault.Range = codes "Range"
+fault_word fault.Rest = codes "Rest"
+
+-- who says what to whom and how much is attached, or the refusal and its place
+abbrev pub packet_answer : Result PacketFields PacketError → Answer
+packet_answer (Ok p) = good (packet_words p)
+packet_answer (Err e) = refused (fault_word e.kind ++ codes " at " ++ decimal e.at)
+
+-- ---- scripts
+
+abbrev pub script_word : ScriptFault → List ℕ
+script_word script_fault.Long = codes "Long"
+script_word script_fault.Text = codes "Text"
+script_word script_fault.Word = codes "Word"
+script_word script_fault.Count = codes "Count"
+script_word script_fault.Register = codes "Register"
+script_word script_fault.Number = codes "Number"
+script_word script_fault.Target = codes "Target"
+
+-- the number of instructions, or the line that is refused and why
+abbrev pub script_answer : Result (List Instruction) ScriptError → Answer
+script_answer (Ok instructions) = good (codes "ok " ++ decimal (length instructions))
+script_answer (Err e) = refused (codes "line " ++ decimal e.line ++ codes " " ++ script_word e.kind)
+
+-- what a text is read as, memory aside
+abbrev pub IsReadAs : List ℕ → Result (List Instruction) ScriptError → Type 0
+IsReadAs text (Ok instructions) = Reads (Ok instructions) text
+IsReadAs text (Err e) = Reads (Err (read_error.Script e)) text
+
+pub record ScriptAnswers (text : List ℕ) (a : Answer) : Type 0 where
+  pub read : Result (List Instruction) ScriptError
+  pub is_read : IsReadAs text read
+  pub answer : a ≡ script_answer read
+
+-- ---- all kinds
+
+-- the answer to a text that is to be of this kind
+abbrev pub Answers : Kind → List ℕ → Answer → Type 0
+Answers kind.Event text a = a ≡ event_answer (event_of text)
+Answers kind.Packet text a = a ≡ packet_answer (packet_of text)
+Answers kind.Script text a = ScriptAnswers text a
