@@ -1,21 +1,25 @@
 //! The text of elements.
 //!
 //! - `errors` tells what is refused in a text, and where.
+//! - `reading` reads a text as an element.
 //! - `spaces` lists the namespaces that a tree uses, in order of first use.
 //! - `writing` writes the canonical text of a tree.
 //! - `laws` has what holds of canonical texts, and of what texts stand for.
 //!
-//! Reading isn't built whole yet. `errors` has what it will answer, and its definitions are here, in specs/. There
-//! `Documents` has the documents and their spelling, `Digits`, `Tokens`, `Grammar` and `Beginnings` tell which are in the
-//! grammar, `Bindings`, `Values` and `Meaning` give the tree that a document stands for, `Faults` what is refused in one,
-//! `Places` and `Causes` what refuses a text, `Reading` what reading has to answer, and `Canonical` the text that is
-//! written.
+//! In specs/, `Documents` has the documents and their spelling, `Digits`, `Tokens`, `Grammar` and `Beginnings` tell which
+//! are in the grammar, `Bindings`, `Values` and `Meaning` give the tree that a document stands for, `Faults` what is
+//! refused in one, `Places` and `Causes` what refuses a text, `Reading` what reading answers, and `Canonical` the text
+//! that is written.
 //!
-//! What it will stand on is here: a reader that takes one character after another, as definitions (`Scan`, `Noted`,
-//! `States`), parts of its code, and the private laws of `reader_laws`: that reader takes each document whole, what it
-//! read begins a document, and what refuses a text is what it finds in it.
+//! Reading takes one character after another (`scan`), outside of tags (`steps`, `declaring`, `references`) and in them
+//! (`tag_steps`, `values`); `outer` keeps the open elements and what was read, `tags`, `seen`, `scopes` and `resolving`
+//! have the attributes and the namespaces of a tag, `words` the names in `Value`, `least` the least refusal, `stopping`
+//! what is refused where no character fits, and `building` the tree of what was read. Their definitions (`Scan`, `Noted`,
+//! `States` and others) are for the proofs: by the private laws of `reader_laws` the reader takes each document whole,
+//! what it read begins a document, and what refuses a text is what it finds in it.
 //!
-//! The one contract so far: `write_element` gives the canonical text, `canonical`, of the tree. By the laws it stands
+//! The contracts: `read_element` answers by `Reads`, the tree that the text stands for, or what comes first of all that
+//! refuses it, with its place. `write_element` gives the canonical text, `canonical`, of the tree; by the laws it stands
 //! for that tree, and no other tree has it. Nothing stands on this layer yet; the layer of envelopes will.
 #![tactic(auto)]
 

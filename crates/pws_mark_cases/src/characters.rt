@@ -2,6 +2,7 @@
 
 use crate::bytes::bytes_of;
 use crate::character_table::CHARACTERS;
+use pws_mark::errors::ReadError;
 use pws_mark::reading::read_element;
 use std::alloc::Global;
 use std::process::Abort;
@@ -20,7 +21,8 @@ fn is_read(
     text.extend_from_slice(behind)?;
     match read_element(alloc, &text) {
         Ok(_) => Ok("yes"),
-        Err(_) => Ok("no"),
+        Err(ReadError::Mark(_)) => Ok("no"),
+        Err(ReadError::Memory) => Ok("out of memory"),
     }
 }
 

@@ -35,9 +35,7 @@ fn check_read(
     answer: &str,
 ) -> Result<(), Fail> {
     match answer.strip_prefix("canonical ") {
-        Some(canonical) => {
-            check_written(rt, alloc, name, element, &bytes_of(alloc, canonical)?)
-        }
+        Some(canonical) => { check_written(rt, alloc, name, element, &bytes_of(alloc, canonical)?) }
         None => {
             assert!(rt; false, "{name}: read");
             Ok(())

@@ -10,9 +10,11 @@ use std::alloc::Global;
 use std::test::Fail;
 
 /// Two lines, the first ended by CR LF and the second by nothing.
-const TOOLKIT: &str = "<?xml version=\"1.0\" encoding=\"UTF-8\"?>\r\n<soapenv:Envelope xmlns:soapenv=\"http://www.w3.org/2003/05/soap-envelope\" xmlns:wsa=\"http://www.w3.org/2005/08/addressing\"><soapenv:Header><wsa:Action soapenv:mustUnderstand=\"1\">urn:shop:order</wsa:Action></soapenv:Header><soapenv:Body><!-- one --><order xmlns=\"urn:shop\"><item><![CDATA[a<b]]></item></order></soapenv:Body></soapenv:Envelope>";
+const TOOLKIT: &str =
+    "<?xml version=\"1.0\" encoding=\"UTF-8\"?>\r\n<soapenv:Envelope xmlns:soapenv=\"http://www.w3.org/2003/05/soap-envelope\" xmlns:wsa=\"http://www.w3.org/2005/08/addressing\"><soapenv:Header><wsa:Action soapenv:mustUnderstand=\"1\">urn:shop:order</wsa:Action></soapenv:Header><soapenv:Body><!-- one --><order xmlns=\"urn:shop\"><item><![CDATA[a<b]]></item></order></soapenv:Body></soapenv:Envelope>";
 
-const CANONICAL: &str = "<n0:Envelope xmlns:n0=\"http://www.w3.org/2003/05/soap-envelope\" xmlns:n1=\"http://www.w3.org/2005/08/addressing\" xmlns:n2=\"urn:shop\"><n0:Header><n1:Action n0:mustUnderstand=\"1\">urn:shop:order</n1:Action></n0:Header><n0:Body><n2:order><n2:item>a&lt;b</n2:item></n2:order></n0:Body></n0:Envelope>";
+const CANONICAL: &str =
+    "<n0:Envelope xmlns:n0=\"http://www.w3.org/2003/05/soap-envelope\" xmlns:n1=\"http://www.w3.org/2005/08/addressing\" xmlns:n2=\"urn:shop\"><n0:Header><n1:Action n0:mustUnderstand=\"1\">urn:shop:order</n1:Action></n0:Header><n0:Body><n2:order><n2:item>a&lt;b</n2:item></n2:order></n0:Body></n0:Envelope>";
 
 /// The canonical text of what was read.
 fn written_again(alloc: Global, text: &str) -> Result<Vec<u8>, Fail> {
@@ -34,7 +36,13 @@ fn a_toolkits_envelope(rt: HostRuntime) -> Result<(), Fail> {
 #[test]
 fn refused_envelopes(rt: HostRuntime) -> Result<(), Fail> {
     let alloc = rt.alloc();
-    check(&rt, alloc, "doctype", b"<!DOCTYPE a><a></a>", "Doctype at 0")?;
+    check(
+        &rt,
+        alloc,
+        "doctype",
+        b"<!DOCTYPE a><a></a>",
+        "Doctype at 0",
+    )?;
     check(&rt, alloc, "crossed", b"<a><b></a>", "Syntax at 8")?;
     check(&rt, alloc, "unbound", b"<p:a></p:a>", "Prefix at 1")?;
     check(&rt, alloc, "text", b"hi", "Syntax at 0")?;
