@@ -1,6 +1,6 @@
 -- Elements as children, and the elements among children.
-use Rattle.std.proofs.Common.{◌≡◌, ℕ, suc, ◌+◌, ◌<◌, length, drop, get_or, drop-cons, add-one, Bool, true, false, ◌&&◌, List, [], ◌∷◌, ◌++◌, map, refl, ap, sym, ◌∙◌, append-nil}
-use Rattle.pws_tree.specs.Trees.{Tree, Nodes, NoNode, TextThen, QualifiedThen, ElementThen}
+use Rattle.std.proofs.Common.{◌≡◌, ℕ, suc, ◌+◌, ◌<◌, length, drop, get_or, drop-cons, add-one, Bool, true, false, ◌&&◌, List, [], ◌∷◌, ◌++◌, refl, ap, sym, ◌∙◌}
+use Rattle.pws_tree.specs.Trees.{Tree, Nodes, NoNode}
 use Rattle.pws_tree.specs.Nodes.{nodes_of, node_then}
 use Rattle.pws_tree.specs.declared.trees.Node.{Node}
 use Rattle.pws_tree.specs.declared.trees.Node.TheVariants as node

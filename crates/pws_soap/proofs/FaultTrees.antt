@@ -1,22 +1,22 @@
 -- The tree of a lawful fault is lawful.
 use lib.Utf8.{encode}
-use Rattle.std.proofs.Common.{◌≡◌, ℕ, ◌≤◌, Bool, true, false, not, ◌&&◌, List, [], ◌∷◌, refl, ap, sym, ◌∙◌, arith, IsTrue, Option, Some, None}
+use Rattle.std.proofs.Common.{◌≡◌, ℕ, ◌≤◌, true, false, not, ◌&&◌, List, [], ◌∷◌, refl, ap, ◌∙◌, arith, IsTrue, Option, Some, None}
 use Rattle.std.specs.Prelude.{if◌then◌else◌}
 use Rattle.std.specs.List.{list_all}
 use Rattle.std.specs.Str.{is_utf8, chars}
 use Rattle.pws_tree.specs.Characters.{is_xml_text, is_local_name, xml_ranges, name_start_ranges, name_more_ranges}
-use Rattle.pws_tree.specs.Names.{is_lawful_name, is_lawful_attr, ascend, is_value, envelope_space, xmlns_space, xmlns_word, value_word}
-use Rattle.pws_tree.specs.Lawful.{is_lawful, is_lawful_tag, is_lawful_text, are_lawful, fits_name, levels, has_qualified, is_one_qualified}
-use Rattle.pws_tree.specs.Trees.{Tree, Nodes, NoNode, TextThen, QualifiedThen}
+use Rattle.pws_tree.specs.Names.{is_lawful_name, is_lawful_attr, envelope_space, xmlns_space, xmlns_word, value_word}
+use Rattle.pws_tree.specs.Lawful.{is_lawful, is_lawful_tag, is_lawful_text, are_lawful, fits_name, has_qualified, is_one_qualified}
+use Rattle.pws_tree.specs.Trees.{Tree, NoNode, QualifiedThen}
 use Rattle.pws_tree.specs.declared.texts.Name.{Name}
 use Rattle.pws_mark.specs.Canonical.{xml_space}
 use Rattle.pws_soap.specs.Names.{soap_name, fault_word, code_word, subcode_word, reason_word, text_word, lang_word, english}
-use Rattle.pws_soap.specs.Envelopes.{soap_tree, element_then}
+use Rattle.pws_soap.specs.Envelopes.{element_then}
 use Rattle.pws_soap.specs.Faults.{Faulted, is_lawful_subcode, word_of, value_tree, subcode_tree, subcode_nodes, code_nodes, code_tree, text_nodes, language, text_tree, reason_tree, fault_tree}
 use Rattle.pws_soap.specs.declared.faults.FaultCode.{FaultCode}
 use Rattle.pws_soap.specs.declared.faults.FaultCode.TheVariants as fault_code
-use Rattle.pws_soap.proofs.Joined.{first_true, second_true, both_true}
-use Rattle.pws_soap.proofs.Lawful.{is_sound, IsPlainWord, IsKept, IsPlain, none_plain, then_plain, soap_kept, kept_lawful}
+use Rattle.pws_soap.proofs.Joined.{both_true}
+use Rattle.pws_soap.proofs.Lawful.{IsPlainWord, IsKept, IsPlain, none_plain, then_plain, soap_kept, kept_lawful}
 
 code_plain : IsPlainWord code_word
 unfolding is_utf8 chars encode is_local_name is_xml_text xml_ranges name_start_ranges name_more_ranges envelope_space xmlns_space value_word code_word

@@ -4,7 +4,7 @@ use Rattle.std.specs.Prelude.{if◌then◌else◌, codes}
 use Rattle.std.specs.Str.{bytes_eq}
 use Rattle.pws_tree.specs.Trees.{Tree, Nodes, NoNode, TextThen, ElementThen, QualifiedThen}
 use Rattle.pws_tree.specs.declared.texts.Name.{Name}
-use Rattle.pws_soap.specs.Faults.{Faulted, word_of, subcode_nodes, code_nodes, text_nodes, fault_tree}
+use Rattle.pws_soap.specs.Faults.{Faulted, word_of, code_nodes, text_nodes, fault_tree}
 use Rattle.pws_soap.specs.Laws.{FaultsTellApart}
 use Rattle.pws_soap.specs.declared.faults.FaultCode.{FaultCode}
 use Rattle.pws_soap.specs.declared.faults.FaultCode.TheVariants as fault_code

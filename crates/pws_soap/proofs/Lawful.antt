@@ -1,17 +1,15 @@
 -- Lawful elements of the envelope namespace.
 use lib.Utf8.{encode}
-use Rattle.std.proofs.Common.{◌≡◌, ℕ, ◌+◌, ◌≤◌, max, Bool, true, false, not, ◌&&◌, nat_le, List, [], ◌∷◌, refl, ap, sym, ◌∙◌, arith, IsTrue}
+use Rattle.std.proofs.Common.{◌≡◌, ℕ, ◌+◌, ◌≤◌, Bool, true, false, not, ◌&&◌, nat_le, List, [], ◌∷◌, refl, ap, ◌∙◌, arith, IsTrue}
 use Rattle.std.specs.Prelude.{if◌then◌else◌}
 use Rattle.std.specs.Str.{is_utf8, chars}
 use Rattle.std.proofs.lemmas.Bool.{leb-true, le-leb}
 use Rattle.pws_tree.specs.Names.{is_lawful_name, is_value, envelope_space, xmlns_space, value_word}
 use Rattle.pws_tree.specs.Characters.{is_xml_text, is_local_name, xml_ranges, name_start_ranges, name_more_ranges}
 use Rattle.pws_tree.specs.Lawful.{is_lawful, is_lawful_tag, are_lawful, fits_name, levels, has_qualified, is_one_qualified, tree_depth}
-use Rattle.pws_tree.specs.Trees.{Tree, Nodes, NoNode, ElementThen, QualifiedThen}
-use Rattle.pws_tree.specs.declared.texts.Name.{Name}
-use Rattle.pws_soap.specs.Names.{soap_name, envelope_word, header_word, body_word, fault_word, code_word, subcode_word, reason_word, text_word}
+use Rattle.pws_tree.specs.Trees.{Tree, Nodes, NoNode}
+use Rattle.pws_soap.specs.Names.{soap_name, envelope_word, header_word, body_word}
 use Rattle.pws_soap.specs.Envelopes.{Enveloped, soap_tree, element_then, nodes_of_trees, header_then, root_of}
-use Rattle.pws_soap.specs.Made.{has_few_levels, is_lawful_body}
 use Rattle.pws_soap.proofs.Joined.{first_true, second_true, both_true}
 
 -- a tag and what is inside of it, but for the depth

@@ -1,15 +1,14 @@
 -- Which parts make an envelope.
-use Rattle.std.proofs.Common.{◌≡◌, ℕ, suc, length, ◌+◌, ◌≤◌, Bool, true, false, not, ◌&&◌, nat_le, List, [], ◌∷◌, ◌++◌, refl, ap, sym, ◌∙◌, subst, arith, IsTrue}
-use Rattle.std.specs.Prelude.{◌==◌}
+use Rattle.std.proofs.Common.{◌≡◌, ℕ, Bool, true, false, not, ◌&&◌, nat_le, List, [], ◌∷◌, ◌++◌, refl, ap, subst, arith, IsTrue}
 use Rattle.std.specs.List.{list_all}
 use Rattle.std.proofs.lemmas.Bool.{leb-true, le-leb}
 use Rattle.pws_tree.specs.Lawful.{is_lawful, is_lawful_tag, are_lawful, levels, has_qualified, tree_depth}
 use Rattle.pws_tree.specs.Trees.{Tree, Nodes, NoNode}
-use Rattle.pws_soap.specs.Envelopes.{Enveloped, elements, element_then, nodes_of_trees, header_then, soap_tree, root_of}
+use Rattle.pws_soap.specs.Envelopes.{Enveloped, elements, nodes_of_trees, soap_tree, root_of}
 use Rattle.pws_soap.specs.Faults.{envelope_around}
 use Rattle.pws_soap.specs.Made.{has_few_levels, is_lawful_body, with_headers}
-use Rattle.pws_soap.proofs.Joined.{first_true, second_true, both_true, not_true}
-use Rattle.pws_soap.proofs.Lawful.{is_sound, sound_of, few_of, lawful_of, IsKept, AreKept, IsPlain, none_plain, then_plain, trees_plain, soap_kept, header_plain, body_plain, root_kept}
+use Rattle.pws_soap.proofs.Joined.{first_true, second_true, both_true}
+use Rattle.pws_soap.proofs.Lawful.{sound_of, few_of, lawful_of, IsKept, AreKept, IsPlain, none_plain, then_plain, trees_plain, soap_kept, header_plain, body_plain, root_kept}
 use Rattle.pws_soap.specs.Names.{header_word, body_word}
 use Rattle.pws_soap.proofs.Read.{elements_kept, parts_kept, AreBlocksKept}
 use Rattle.pws_soap.proofs.Roots.{elements_back, parts_back, root_parts}

@@ -1,10 +1,10 @@
 -- What is read from a lawful tree.
-use Rattle.std.proofs.Common.{◌≡◌, ℕ, ◌+◌, ◌≤◌, max, Bool, true, false, not, ◌&&◌, List, [], ◌∷◌, Option, Some, None, refl, ap, sym, ◌∙◌, subst, arith, IsTrue}
-use Rattle.std.specs.Prelude.{if◌then◌else◌, Result, Ok, Err}
-use Rattle.std.specs.List.{list_all, find}
+use Rattle.std.proofs.Common.{◌≡◌, ℕ, ◌+◌, ◌≤◌, Bool, true, false, not, ◌&&◌, List, [], ◌∷◌, Option, Some, None, refl, ap, sym, ◌∙◌, subst, arith, IsTrue}
+use Rattle.std.specs.Prelude.{if◌then◌else◌, Result, Err}
+use Rattle.std.specs.List.{list_all}
 use Rattle.std.specs.Str.{bytes_eq}
 use Rattle.std.specs.Cmp.Lexicographic.{bytes_decides}
-use Rattle.pws_tree.specs.Names.{is_lawful_name, is_lawful_attr, ascend, is_value, envelope_space, value_word}
+use Rattle.pws_tree.specs.Names.{is_lawful_name, is_lawful_attr, ascend, is_value, envelope_space}
 use Rattle.pws_tree.specs.Lawful.{is_lawful, is_lawful_tag, are_lawful, fits_name, levels, has_qualified, is_one_qualified, is_lawful_text, starts_with_text}
 use Rattle.pws_tree.specs.Trees.{Tree, Nodes, NoNode, TextThen, ElementThen, QualifiedThen}
 use Rattle.pws_tree.specs.declared.texts.Name.{Name}
@@ -13,8 +13,8 @@ use Rattle.pws_soap.specs.Blocks.{is_well_marked}
 use Rattle.pws_soap.specs.Envelopes.{Enveloped, Parts, elements, are_texts_white, parts_of, blocks_then, blocks_of, in_order, understood, envelope_of, Answers, root_of}
 use Rattle.pws_soap.specs.declared.errors.SoapError.{SoapError}
 use Rattle.pws_soap.specs.declared.errors.SoapError.TheVariants as soap_error
-use Rattle.pws_soap.proofs.Joined.{first_true, second_true, both_true, chosen, IsChosen}
-use Rattle.pws_soap.proofs.Lawful.{is_sound, sound_of, few_of, IsKept, AreKept, IsPlain, none_plain, body_plain, root_kept}
+use Rattle.pws_soap.proofs.Joined.{first_true, second_true, both_true, chosen}
+use Rattle.pws_soap.proofs.Lawful.{is_sound, sound_of, few_of, IsKept, AreKept, IsPlain, body_plain, root_kept}
 
 pub elements_kept : (n : ℕ) (ns : Nodes) → are_lawful ns ≡ true → levels ns ≤ n + 1 → AreKept n (elements ns)
 elements_kept n NoNode h few = tt

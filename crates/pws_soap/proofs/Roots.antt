@@ -1,11 +1,11 @@
 -- The root of an envelope is read as that envelope.
-use Rattle.std.proofs.Common.{◌≡◌, ℕ, Bool, true, false, not, ◌&&◌, List, [], ◌∷◌, Option, Some, None, refl, ap, sym, ◌∙◌}
-use Rattle.std.specs.Prelude.{if◌then◌else◌, Result, Ok, Err, option_map, ◌↔◌}
+use Rattle.std.proofs.Common.{◌≡◌, Bool, true, false, not, ◌&&◌, List, [], ◌∷◌, Option, Some, None, refl, ap, sym, ◌∙◌}
+use Rattle.std.specs.Prelude.{if◌then◌else◌, Result, Ok, Err, option_map}
 use Rattle.std.specs.List.{list_all, find}
 use Rattle.std.specs.Str.{bytes_eq}
 use Rattle.pws_tree.specs.Names.{envelope_space}
-use Rattle.pws_tree.specs.Trees.{Tree, Nodes, NoNode, TextThen, ElementThen, QualifiedThen}
-use Rattle.pws_soap.specs.Names.{is_soap_name, soap_name, envelope_word, header_word, body_word}
+use Rattle.pws_tree.specs.Trees.{Tree, Nodes, NoNode}
+use Rattle.pws_soap.specs.Names.{envelope_word, header_word, body_word}
 use Rattle.pws_soap.specs.Blocks.{is_well_marked, is_not_understood}
 use Rattle.pws_soap.specs.Envelopes.{Enveloped, Parts, soap_tree, element_then, nodes_of_trees, header_then, elements, are_texts_white, parts_of, blocks_then, blocks_of, in_order, root_of, envelope_of, understood, not_understood}
 use Rattle.pws_soap.specs.Laws.{RootsAreRead, EnvelopesReadBack, RootsTellApart}

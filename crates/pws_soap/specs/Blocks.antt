@@ -1,10 +1,11 @@
 -- Header blocks: whom one is for, and whether it must be understood (SOAP 1.2 Part 1, sections 2.2 to 2.4 and 5.2).
-use Rattle.std.specs.Prelude.{ℕ, Bool, true, false, not, ◌&&◌, ◌||◌, List, Option, Some, None, option_map, codes}
-use Rattle.std.specs.List.{find}
+use Rattle.std.specs.Prelude.{ℕ, Bool, true, false, not, ◌&&◌, ◌||◌, List, Option, Some, None, codes}
+use Rattle.std.specs.List.{find, list_any}
 use Rattle.std.specs.Str.{bytes_eq}
 use Rattle.pws_tree.specs.Trees.{Tree}
+use Rattle.pws_tree.specs.declared.texts.Name.{Name}
 use Rattle.pws_tree.specs.declared.texts.Attr.{Attr}
-use Rattle.pws_soap.specs.Names.{is_soap_name, is_addressing_header, role_word, must_understand_word, next_role, ultimate_role}
+use Rattle.pws_soap.specs.Names.{is_soap_name, addressing_space, addressing_words, role_word, must_understand_word, next_role, ultimate_role}
 use Rattle.pws_soap.specs.White.{trim}
 
 -- the attribute of this name in the envelope namespace
@@ -44,6 +45,10 @@ is_demand (Some demand) = says_true demand.value
 
 abbrev pub must_be_understood : Tree → Bool
 must_be_understood block = is_demand (attribute_of must_understand_word block.attrs)
+
+-- one of the seven addressing headers
+abbrev pub is_addressing_header : Name → Bool
+is_addressing_header n = bytes_eq n.space addressing_space && list_any (bytes_eq n.local) addressing_words
 
 -- section 2.4: a block for this node that must be understood and isn't, since addressing headers alone are
 abbrev pub is_not_understood : Tree → Bool

@@ -1,6 +1,6 @@
 -- Envelopes, and which tree is one (SOAP 1.2 Part 1, sections 5.1 to 5.3). The order of the refusals, and that white
 -- space beside the parts isn't kept, are this project's own.
-use Rattle.std.specs.Prelude.{◌≡◌, ℕ, Bool, true, false, not, ◌&&◌, if◌then◌else◌, List, [], ◌∷◌, Option, Some, None, Result, Ok, Err}
+use Rattle.std.specs.Prelude.{◌≡◌, ℕ, Bool, true, not, ◌&&◌, if◌then◌else◌, List, [], ◌∷◌, Option, Some, None, Result, Ok, Err}
 use Rattle.std.specs.List.{list_all, find}
 use Rattle.std.specs.Str.{bytes_eq}
 use Rattle.pws_tree.specs.Names.{envelope_space}

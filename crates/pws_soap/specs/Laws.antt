@@ -1,5 +1,5 @@
 -- Writing and reading give an envelope back, and no two envelopes or faults are written as one tree.
-use Rattle.std.specs.Prelude.{◌≡◌, ◌↔◌, if◌then◌else◌, List, Some, None, Result, Ok}
+use Rattle.std.specs.Prelude.{◌≡◌, ◌↔◌, if◌then◌else◌, Some, None, Ok}
 use Rattle.std.specs.List.{list_all}
 use Rattle.pws_tree.specs.Trees.{Tree}
 use Rattle.pws_soap.specs.Blocks.{is_well_marked}

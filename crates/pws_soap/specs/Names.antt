@@ -1,6 +1,5 @@
 -- Names that SOAP 1.2 Part 1 and WS-Addressing 1.0 give.
 use Rattle.std.specs.Prelude.{ℕ, Bool, ◌&&◌, List, [], ◌∷◌, codes}
-use Rattle.std.specs.List.{list_any}
 use Rattle.std.specs.Str.{bytes_eq}
 use Rattle.pws_tree.specs.Names.{envelope_space}
 use Rattle.pws_tree.specs.declared.texts.Name.{Name}
@@ -69,7 +68,3 @@ addressing_space = codes "http://www.w3.org/2005/08/addressing"
 unfoldable pub addressing_words : List (List ℕ)
 addressing_words =
     codes "To" ∷ codes "From" ∷ codes "ReplyTo" ∷ codes "FaultTo" ∷ codes "Action" ∷ codes "MessageID" ∷ codes "RelatesTo" ∷ []
-
--- one of the seven addressing headers
-abbrev pub is_addressing_header : Name → Bool
-is_addressing_header n = bytes_eq n.space addressing_space && list_any (bytes_eq n.local) addressing_words

@@ -1,9 +1,10 @@
 //! Why there is no envelope.
 
+use pws_base::lists::ExactCopy;
 use pws_base::memory::Memory;
 use pws_mark::errors::MarkError;
 use pws_tree::texts::Name;
-use std::alloc::{AllocError, AllocFailed};
+use std::alloc::{AllocError, AllocFailed, Global};
 use thiserror::Error;
 
 /// Why a text or a tree is no envelope that this node takes.
@@ -28,6 +29,19 @@ pub enum SoapError {
     /// There was no memory.
     #[error("out of memory")]
     Memory,
+}
+
+impl ExactCopy for SoapError {
+    fn copy(&self, alloc: Global) -> Result<SoapError, Memory> {
+        match self {
+            SoapError::Mark(error) => Ok(SoapError::Mark(*error)),
+            SoapError::NotEnvelope => Ok(SoapError::NotEnvelope),
+            SoapError::Version => Ok(SoapError::Version),
+            SoapError::Order => Ok(SoapError::Order),
+            SoapError::MustUnderstand(name) => Ok(SoapError::MustUnderstand(name.copy(alloc)?)),
+            SoapError::Memory => Ok(SoapError::Memory),
+        }
+    }
 }
 
 impl From<Memory> for SoapError {

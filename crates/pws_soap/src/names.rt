@@ -1,7 +1,8 @@
 //! Names that SOAP 1.2 and WS-Addressing 1.0 give.
 
 ghost use Rattle.std.specs.Prelude.{◌≡◌, IfOk};
-ghost use Rattle.pws_soap.specs.Names.{soap_name, is_soap_name, is_addressing_header};
+ghost use Rattle.pws_soap.specs.Names.{soap_name, is_soap_name};
+ghost use Rattle.pws_soap.specs.Blocks.{is_addressing_header};
 
 use pws_base::memory::Memory;
 use pws_tree::texts::{Name, Text};

@@ -1,4 +1,4 @@
-use Rattle.std.proofs.Common.{length, ◌-◌, ◌≡◌, ◌+◌, ◌≤◌, take}
+use Rattle.std.proofs.Common.{length, ◌≡◌, ◌+◌, ◌≤◌, take}
 use Rattle.std.specs.List.{suffix_len}
 use Rattle.pws_mark.specs.Tokens.{is_white}
 use Rattle.pws_soap.proofs.white.white_behind.Given as goal
