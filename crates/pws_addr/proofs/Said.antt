@@ -19,7 +19,7 @@ use Rattle.pws_tree.specs.declared.trees.Node.{Node}
 use Rattle.pws_tree.specs.declared.trees.Node.TheVariants as node
 use Rattle.pws_mark.specs.Tokens.{is_white}
 use Rattle.pws_soap.specs.Envelopes.{elements}
-use Rattle.pws_soap.specs.White.{trim}
+use Rattle.pws_soap.specs.White.{trim_start, trim_end, trim}
 use Rattle.pws_addr.specs.Reading.{some_text, only_text, is_address, only_of, is_relationship}
 
 -- one child alone is the only one
@@ -108,7 +108,7 @@ part_xml n m t white kept h =
 
 pub trim_xml : (t : List ℕ) → IsUtf8 (trim t) → IsTrue (is_xml_text t) → IsTrue (is_xml_text (trim t))
 unfolding trim
-trim_xml t kept h = h
+trim_xml t kept h = part_xml (prefix_len is_white t) (length (drop (prefix_len is_white t) t) - suffix_len is_white (drop (prefix_len is_white t) t)) t (prefix_ascii t) kept h
 
 -- what is found is one of them
 found_either : {B : Type 0} (q : B → Bool) (b : Bool) (y x : B) (rest : Option B) → Some x ≡ cond b (Some y) rest → q y ≡ true → (Some x ≡ rest → q x ≡ true) → q x ≡ true
@@ -130,7 +130,3 @@ value_xml t a h e =
     let all = and_parts (list_all is_lawful_attr t.attrs) (ascend t.attrs && fits_name t.name t.children) rest.1 in
     let one : is_lawful_attr a ≡ true = found_passes is_relationship is_lawful_attr t.attrs a e all.0 in
     (and_parts (is_lawful_name a.name && not (is_declaration a.name)) (is_xml_text a.value) one).1
-
--- to have a witness of the real body
-pub part_xml_again : (t : List ℕ) → IsUtf8 (take (length (drop (prefix_len is_white t) t) - suffix_len is_white (drop (prefix_len is_white t) t)) (drop (prefix_len is_white t) t)) → IsTrue (is_xml_text t) → IsTrue (is_xml_text (take (length (drop (prefix_len is_white t) t) - suffix_len is_white (drop (prefix_len is_white t) t)) (drop (prefix_len is_white t) t)))
-part_xml_again t kept h = part_xml (prefix_len is_white t) (length (drop (prefix_len is_white t) t) - suffix_len is_white (drop (prefix_len is_white t) t)) t (prefix_ascii t) kept h

@@ -5,6 +5,7 @@ pub mod causes;
 pub mod envelopes;
 pub mod headers;
 pub mod identifiers;
+pub mod laws;
 pub mod putting;
 pub mod reading;
 pub mod replies;
