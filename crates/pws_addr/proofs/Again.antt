@@ -377,12 +377,12 @@ maybe_said h (Some t) all = block_says h [] t (and_parts (is_sayable t) true all
 all_is : (headers : List Tree) (a : Addressing) → list_all is_other headers ≡ true → AreSayable a → all_said (headers ++ blocks_of a) ≡ a
 all_is headers a others ok =
     let to : unwrap_or (first_said header.To (headers ++ blocks_of a)) anonymous ≡ a.to =
-        ap (λ o. unwrap_or o anonymous) (first_is header.To headers a others ∙ block_says header.To [] a.to ok.to) in
+    ap (λ o. unwrap_or o anonymous) (first_is header.To headers a others ∙ block_says header.To [] a.to ok.to) in
     let action : unwrap_or (first_said header.Action (headers ++ blocks_of a)) [] ≡ a.action =
-        ap (λ o. unwrap_or o []) (first_is header.Action headers a others ∙ block_says header.Action [] a.action ok.action) in
+    ap (λ o. unwrap_or o []) (first_is header.Action headers a others ∙ block_says header.Action [] a.action ok.action) in
     let ids : first_said header.MessageId (headers ++ blocks_of a) ≡ a.message_id = first_is header.MessageId headers a others ∙ maybe_said header.MessageId a.message_id ok.ids in
     let relations : filter_map relation_said (filter (is_block header.RelatesTo) (headers ++ blocks_of a)) ≡ a.relates_to =
-        ap (filter_map relation_said) (all_at header.RelatesTo headers a others) ∙ relations_say a.relates_to ok.relations in
+    ap (filter_map relation_said) (all_at header.RelatesTo headers a others) ∙ relations_say a.relates_to ok.relations in
     let replies : first_said header.ReplyTo (headers ++ blocks_of a) ≡ a.reply_to = first_is header.ReplyTo headers a others ∙ maybe_said header.ReplyTo a.reply_to ok.replies in
     let from : first_said header.From (headers ++ blocks_of a) ≡ a.from = first_is header.From headers a others ∙ maybe_said header.From a.from ok.from in
     let faults : first_said header.FaultTo (headers ++ blocks_of a) ≡ a.fault_to = first_is header.FaultTo headers a others ∙ maybe_said header.FaultTo a.fault_to ok.faults in

@@ -26,13 +26,14 @@ use Rattle.pws_addr.specs.declared.headers.Addressing.{Addressing}
 -- the root of a fault that answers a request without addressing, with this identifier
 abbrev pub unaddressed : List ℕ → Addressing
 unaddressed id = record {
-    to = anonymous;
-    action = fault_action;
-    message_id = Some id;
-    relates_to = [];
-    reply_to = None;
-    from = None;
-    fault_to = None }
+  to = anonymous;
+  action = fault_action;
+  message_id = Some id;
+  relates_to = [];
+  reply_to = None;
+  from = None;
+  fault_to = None;
+}
 
 abbrev pub fault_root : List ℕ → Cause → Tree
 fault_root id c = root_of (record { headers = blocks_of (unaddressed id); body = element_then (fault_tree (fault_of c)) NoNode })
@@ -74,8 +75,14 @@ short_prefixes = record { short = λ space. prefix_either (bytes_eq space xml_sp
 
 declaration_short : (n : ℕ) (space : List ℕ) → n < 10 → length (declaration_text (n, space)) ≤ length declaration_word + 6 * length space + 4
 declaration_short n space low =
-    omega (arith, length-append declaration_word (decimal n ++ value_text space), length-append (decimal n) (value_text space), length-append (flat_map value_byte space) (34 ∷ []), value_short space,
-    length-decimal-le 1 n (omega arith) (omega arith) (omega arith))
+    omega (
+      arith,
+      length-append declaration_word (decimal n ++ value_text space),
+      length-append (decimal n) (value_text space),
+      length-append (flat_map value_byte space) (34 ∷ []),
+      value_short space,
+      length-decimal-le 1 n (omega arith) (omega arith) (omega arith),
+    )
 
 both_declared : declarations_text both_spaces ≡ declaration_text (0, envelope_space) ++ (declaration_text (1, addressing_space) ++ [])
 both_declared = refl
@@ -87,8 +94,15 @@ spaces_short = omega arith
 declared_short : length (declarations_text both_spaces) ≤ 1000
 declared_short =
     let none : List ℕ = [] in
-    omega (arith, ap length both_declared, length-append (declaration_text (0, envelope_space)) (declaration_text (1, addressing_space) ++ []), length-append (declaration_text (1, addressing_space)) none,
-    declaration_short 0 envelope_space (omega arith), declaration_short 1 addressing_space (omega arith), spaces_short)
+    omega (
+      arith,
+      ap length both_declared,
+      length-append (declaration_text (0, envelope_space)) (declaration_text (1, addressing_space) ++ []),
+      length-append (declaration_text (1, addressing_space)) none,
+      declaration_short 0 envelope_space (omega arith),
+      declaration_short 1 addressing_space (omega arith),
+      spaces_short,
+    )
 
 -- how long such a fault is at most
 root_light : (x : ℕ) (xs : List ℕ) (c : Cause) → length xs ≤ 100 → tree_weight (fault_root (x ∷ xs) c) ≤ 31768
@@ -111,8 +125,14 @@ number_short k n some low small = length-decimal-le k n some low small
 
 numbers_short : (a b c : ℕ) → a < 256 → b < 256 → c < 2 ^ 32 → length (three_numbers a b c) ≤ 50
 numbers_short a b c ha hb hc =
-    omega (arith, length-append (decimal a) (58 ∷ (decimal b ++ 58 ∷ decimal c)), length-append (decimal b) (58 ∷ decimal c),
-    number_short 3 a (omega arith) (omega arith) (omega arith), number_short 3 b (omega arith) (omega arith) (omega arith), number_short 10 c (omega arith) (omega arith) (omega arith))
+    omega (
+      arith,
+      length-append (decimal a) (58 ∷ (decimal b ++ 58 ∷ decimal c)),
+      length-append (decimal b) (58 ∷ decimal c),
+      number_short 3 a (omega arith) (omega arith) (omega arith),
+      number_short 3 b (omega arith) (omega arith) (omega arith),
+      number_short 10 c (omega arith) (omega arith) (omega arith),
+    )
 
 -- the fault that answers a request without addressing
 unaddressed_short : (me caller number : ℕ) (c : Cause) → me < 256 → caller < 256 → number < 2 ^ 32 → length (fault_envelope_text me caller number None c) ≤ 32768

@@ -56,11 +56,11 @@ tree_lawful k n attrs ns small name all sorted inner =
 
 pub then_plain : (k : ℕ) (t : Tree) → IsPlainName t.name → list_all is_lawful_attr t.attrs ≡ true → ascend t.attrs ≡ true → ArePlain k t.children → ArePlain (k + 1) (element_then t NoNode)
 then_plain k t name all sorted inner = record {
-    lawful = and_from (is_lawful_tag t.name t.attrs t.children && are_lawful t.children) true
+  lawful = and_from (is_lawful_tag t.name t.attrs t.children && are_lawful t.children) true
       (and_from (is_lawful_tag t.name t.attrs t.children) (are_lawful t.children) (tag_lawful t.name t.attrs t.children name all sorted inner.plain) inner.lawful) refl;
-    plain = refl;
-    few = omega (arith, inner.few);
-  }
+  plain = refl;
+  few = omega (arith, inner.few);
+}
 
 pub address_named : IsPlainName (addressing_name address_word)
 unfolding is_utf8 chars encode is_local_name is_xml_text xml_ranges name_start_ranges name_more_ranges envelope_space xmlns_space value_word addressing_space address_word
@@ -127,7 +127,7 @@ all_low a =
     let from : List Tree = map (plain_block header.From) (option_to_list a.from) in
     let faults : List Tree = map (plain_block header.FaultTo) (option_to_list a.fault_to) in
     let first_low : All IsLow first = All-cons IsLow (plain_block header.To a.to) (plain_block header.Action a.action ∷ []) (block_low header.To [] a.to)
-        (All-cons IsLow (plain_block header.Action a.action) [] (block_low header.Action [] a.action) (All-nil IsLow)) in
+    (All-cons IsLow (plain_block header.Action a.action) [] (block_low header.Action [] a.action) (All-nil IsLow)) in
     join (first ++ ids ++ relations ++ replies ++ from) faults
     (join (first ++ ids ++ relations ++ replies) from
     (join (first ++ ids ++ relations) replies

@@ -33,9 +33,9 @@ other_both true b h = cc
 
 pub service_named : (local : List ℕ) → IsTrue (is_local_name local) → IsPlainName (service_name local)
 service_named local h = record {
-    lawful = name_both (is_local_name local) (is_xml_text service_space) (not (bytes_eq service_space xmlns_space)) h space_lawful;
-    other = other_both (bytes_eq service_space envelope_space) (bytes_eq local value_word) space_other;
-  }
+  lawful = name_both (is_local_name local) (is_xml_text service_space) (not (bytes_eq service_space xmlns_space)) h space_lawful;
+  other = other_both (bytes_eq service_space envelope_space) (bytes_eq local value_word) space_other;
+}
 
 pub text_named : IsTrue (is_local_name text_local)
 unfolding is_utf8 chars encode is_local_name name_start_ranges name_more_ranges text_local

@@ -65,11 +65,11 @@ addresses_first (node.Qualified q) rest = refl
 ascii_white : (c : ℕ) → is_white c ≡ true → c < 128
 ascii_white c h =
     elim (cases_lt c 128) [
-      inl low ↦ low
-    | inr high ↦ absurd (both_ways (is_white c)
-        (or_from (c == 32) (c == 9 || (c == 10 || c == 13)) (ne_eqb c 32 (λ e. absurd (omega (arith, e, high))))
-        (or_from (c == 9) (c == 10 || c == 13) (ne_eqb c 9 (λ e. absurd (omega (arith, e, high))))
-        (or_from (c == 10) (c == 13) (ne_eqb c 10 (λ e. absurd (omega (arith, e, high)))) (ne_eqb c 13 (λ e. absurd (omega (arith, e, high))))))) h)
+      | inl low ↦ low
+      | inr high ↦ absurd (both_ways (is_white c)
+          (or_from (c == 32) (c == 9 || (c == 10 || c == 13)) (ne_eqb c 32 (λ e. absurd (omega (arith, e, high))))
+          (or_from (c == 9) (c == 10 || c == 13) (ne_eqb c 9 (λ e. absurd (omega (arith, e, high))))
+          (or_from (c == 10) (c == 13) (ne_eqb c 10 (λ e. absurd (omega (arith, e, high)))) (ne_eqb c 13 (λ e. absurd (omega (arith, e, high))))))) h)
     ]
 
 take_more : (n x : ℕ) (xs : List ℕ) → take (1 + n) (x ∷ xs) ≡ x ∷ take n xs
@@ -102,7 +102,7 @@ unfolding is_xml_text
 part_xml n m t white kept h =
     let all : list_all is_xml_char (chars t) ≡ true = (and_parts (is_utf8 t) (list_all is_xml_char (chars t)) h).1 in
     let apart : list_all is_xml_char (chars (take n t) ++ (chars (take m (drop n t)) ++ chars (drop m (drop n t)))) ≡ true =
-        ap (list_all is_xml_char) (sym (chars_apart n m t (IsUtf8-from_ascii (take n t) white) kept)) ∙ all in
+    ap (list_all is_xml_char) (sym (chars_apart n m t (IsUtf8-from_ascii (take n t) white) kept)) ∙ all in
     and_from (is_utf8 (take m (drop n t))) (list_all is_xml_char (chars (take m (drop n t)))) (is_utf8-from_IsUtf8 (take m (drop n t)) kept)
     (middle_xml (chars (take n t)) (chars (take m (drop n t))) (chars (drop m (drop n t))) apart)
 
