@@ -7,6 +7,7 @@ use lib.Utf8.{encode}
 use Rattle.std.specs.Option.{option_to_list}
 use Rattle.std.specs.Prelude.{Option}
 use Rattle.std.proofs.lemmas.Bool.{and_from, le-leb}
+use Rattle.std.proofs.lemmas.List.Sums.{list_all-from_AllPass}
 use Rattle.std.proofs.lemmas.List.Elements.{All-nil, All-cons, All-append, All-map}
 use Rattle.pws_tree.specs.Characters.{is_xml_text, is_local_name, xml_ranges, name_start_ranges, name_more_ranges}
 use Rattle.pws_tree.specs.Lawful.{is_lawful, is_lawful_tag, are_lawful, fits_name, levels, has_qualified, is_one_qualified, tree_depth}
@@ -16,6 +17,7 @@ use Rattle.pws_tree.specs.declared.texts.Name.{Name}
 use Rattle.pws_tree.specs.declared.texts.Attr.{Attr}
 use Rattle.pws_soap.specs.Envelopes.{element_then}
 use Rattle.pws_soap.specs.Faults.{text_nodes}
+use Rattle.pws_soap.specs.Made.{has_few_levels}
 use Rattle.pws_soap.specs.Names.{addressing_space}
 use Rattle.pws_addr.specs.Blocks.{address_word, relationship_word, holds_address, address_tree, content_of, block_of, plain_block, relationship, kind_attrs, relation_block, blocks_of}
 use Rattle.pws_addr.specs.Headers.{addressing_name, header_local, header_name}
@@ -54,11 +56,11 @@ tree_lawful k n attrs ns small name all sorted inner =
 
 pub then_plain : (k : ℕ) (t : Tree) → IsPlainName t.name → list_all is_lawful_attr t.attrs ≡ true → ascend t.attrs ≡ true → ArePlain k t.children → ArePlain (k + 1) (element_then t NoNode)
 then_plain k t name all sorted inner = record {
-    lawful = and_from (is_lawful_tag t.name t.attrs t.children && are_lawful t.children) true
+  lawful = and_from (is_lawful_tag t.name t.attrs t.children && are_lawful t.children) true
       (and_from (is_lawful_tag t.name t.attrs t.children) (are_lawful t.children) (tag_lawful t.name t.attrs t.children name all sorted inner.plain) inner.lawful) refl;
-    plain = refl;
-    few = omega (arith, inner.few);
-  }
+  plain = refl;
+  few = omega (arith, inner.few);
+}
 
 pub address_named : IsPlainName (addressing_name address_word)
 unfolding is_utf8 chars encode is_local_name is_xml_text xml_ranges name_start_ranges name_more_ranges envelope_space xmlns_space value_word addressing_space address_word
@@ -93,7 +95,7 @@ pub relationships_lawful : (kind : List ℕ) → IsTrue (is_xml_text kind) → I
 relationships_lawful kind h = and_from (is_lawful_attr (relationship kind)) true (relationship_lawful kind h) refl
 
 -- a header block has at most two levels
-text_levels : (t : List ℕ) → levels (text_nodes t) ≡ 0
+pub text_levels : (t : List ℕ) → levels (text_nodes t) ≡ 0
 text_levels [] = refl
 text_levels (c ∷ cs) = refl
 
@@ -102,10 +104,10 @@ content_levels true t = omega (arith, text_levels t)
 content_levels false t = omega (arith, text_levels t)
 
 abbrev pub IsLow : Tree → Type 0
-IsLow t = tree_depth t ≤ 62
+IsLow t = has_few_levels t ≡ true
 
 block_low : (h : Header) (attrs : List Attr) (t : List ℕ) → IsLow (block_of h attrs t)
-block_low h attrs t = omega (arith, content_levels (holds_address h) t)
+block_low h attrs t = le-leb (tree_depth (block_of h attrs t)) 62 (omega (arith, content_levels (holds_address h) t))
 
 every : {A : Type 0} (f : A → Tree) → ((x : A) → IsLow (f x)) → (xs : List A) → All IsLow (map f xs)
 every f each xs = All-map IsLow f xs (λ k d h. each (get_or xs k d))
@@ -116,8 +118,8 @@ maybe_low h o = every (plain_block h) (λ t. block_low h [] t) (option_to_list o
 join : (xs ys : List Tree) → All IsLow xs → All IsLow ys → All IsLow (xs ++ ys)
 join xs ys hx hy = All-append IsLow xs ys hx hy
 
-pub blocks_low : (a : Addressing) → All IsLow (blocks_of a)
-blocks_low a =
+all_low : (a : Addressing) → All IsLow (blocks_of a)
+all_low a =
     let first : List Tree = plain_block header.To a.to ∷ plain_block header.Action a.action ∷ [] in
     let ids : List Tree = map (plain_block header.MessageId) (option_to_list a.message_id) in
     let relations : List Tree = map relation_block a.relates_to in
@@ -125,7 +127,7 @@ blocks_low a =
     let from : List Tree = map (plain_block header.From) (option_to_list a.from) in
     let faults : List Tree = map (plain_block header.FaultTo) (option_to_list a.fault_to) in
     let first_low : All IsLow first = All-cons IsLow (plain_block header.To a.to) (plain_block header.Action a.action ∷ []) (block_low header.To [] a.to)
-        (All-cons IsLow (plain_block header.Action a.action) [] (block_low header.Action [] a.action) (All-nil IsLow)) in
+    (All-cons IsLow (plain_block header.Action a.action) [] (block_low header.Action [] a.action) (All-nil IsLow)) in
     join (first ++ ids ++ relations ++ replies ++ from) faults
     (join (first ++ ids ++ relations ++ replies) from
     (join (first ++ ids ++ relations) replies
@@ -135,3 +137,6 @@ blocks_low a =
     (maybe_low header.ReplyTo a.reply_to))
     (maybe_low header.From a.from))
     (maybe_low header.FaultTo a.fault_to)
+
+pub blocks_low : (a : Addressing) → IsTrue (list_all has_few_levels (blocks_of a))
+blocks_low a = list_all-from_AllPass has_few_levels (blocks_of a) (all_low a)

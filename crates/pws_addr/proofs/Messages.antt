@@ -2,15 +2,16 @@
 use Rattle.std.proofs.Common.{◌≡◌, ℕ, Bool, true, false, ◌&&◌, not, List, [], refl, arith, IsTrue}
 use Rattle.std.specs.Str.{is_utf8, chars, bytes_eq}
 use lib.Utf8.{encode}
-use Rattle.std.proofs.lemmas.Bool.{and_from}
+use Rattle.std.proofs.lemmas.Bool.{and_from, le-leb}
 use Rattle.pws_tree.specs.Characters.{is_xml_text, is_local_name, xml_ranges, name_start_ranges, name_more_ranges}
-use Rattle.pws_tree.specs.Lawful.{is_lawful}
+use Rattle.pws_tree.specs.Lawful.{is_lawful, tree_depth}
 use Rattle.pws_tree.specs.Names.{is_lawful_name, is_value, envelope_space, xmlns_space, value_word}
 use Rattle.pws_tree.specs.Trees.{NoNode}
 use Rattle.pws_soap.specs.Envelopes.{element_then}
 use Rattle.pws_soap.specs.Faults.{text_nodes}
+use Rattle.pws_soap.specs.Made.{has_few_levels}
 use Rattle.pws_addr.specs.Envelopes.{service_space, call_local, reply_local, text_local, service_name, service_tree, message_tree}
-use Rattle.pws_addr.proofs.Lawful.{IsPlainName, tree_lawful, then_plain, text_plain}
+use Rattle.pws_addr.proofs.Lawful.{IsPlainName, tree_lawful, then_plain, text_plain, text_levels}
 
 space_lawful : (is_xml_text service_space && not (bytes_eq service_space xmlns_space)) ≡ true
 unfolding is_utf8 chars encode is_xml_text xml_ranges xmlns_space service_space
@@ -32,9 +33,9 @@ other_both true b h = cc
 
 pub service_named : (local : List ℕ) → IsTrue (is_local_name local) → IsPlainName (service_name local)
 service_named local h = record {
-    lawful = name_both (is_local_name local) (is_xml_text service_space) (not (bytes_eq service_space xmlns_space)) h space_lawful;
-    other = other_both (bytes_eq service_space envelope_space) (bytes_eq local value_word) space_other;
-  }
+  lawful = name_both (is_local_name local) (is_xml_text service_space) (not (bytes_eq service_space xmlns_space)) h space_lawful;
+  other = other_both (bytes_eq service_space envelope_space) (bytes_eq local value_word) space_other;
+}
 
 pub text_named : IsTrue (is_local_name text_local)
 unfolding is_utf8 chars encode is_local_name name_start_ranges name_more_ranges text_local
@@ -55,3 +56,6 @@ pub message_lawful : (local text : List ℕ) → IsTrue (is_local_name local) �
 message_lawful local text named h =
     tree_lawful 1 (service_name local) [] (element_then (service_tree text_local (text_nodes text)) NoNode) (omega arith) (service_named local named) refl refl
     (then_plain 0 (service_tree text_local (text_nodes text)) (service_named text_local text_named) refl refl (text_plain 0 text h))
+
+pub message_low : (local text : List ℕ) → IsTrue (has_few_levels (message_tree local text))
+message_low local text = le-leb (tree_depth (message_tree local text)) 62 (omega (arith, text_levels text))

@@ -19,7 +19,7 @@ use Rattle.pws_tree.specs.declared.trees.Node.{Node}
 use Rattle.pws_tree.specs.declared.trees.Node.TheVariants as node
 use Rattle.pws_mark.specs.Tokens.{is_white}
 use Rattle.pws_soap.specs.Envelopes.{elements}
-use Rattle.pws_soap.specs.White.{trim}
+use Rattle.pws_soap.specs.White.{trim_start, trim_end, trim}
 use Rattle.pws_addr.specs.Reading.{some_text, only_text, is_address, only_of, is_relationship}
 
 -- one child alone is the only one
@@ -65,11 +65,11 @@ addresses_first (node.Qualified q) rest = refl
 ascii_white : (c : ℕ) → is_white c ≡ true → c < 128
 ascii_white c h =
     elim (cases_lt c 128) [
-      inl low ↦ low
-    | inr high ↦ absurd (both_ways (is_white c)
-        (or_from (c == 32) (c == 9 || (c == 10 || c == 13)) (ne_eqb c 32 (λ e. absurd (omega (arith, e, high))))
-        (or_from (c == 9) (c == 10 || c == 13) (ne_eqb c 9 (λ e. absurd (omega (arith, e, high))))
-        (or_from (c == 10) (c == 13) (ne_eqb c 10 (λ e. absurd (omega (arith, e, high)))) (ne_eqb c 13 (λ e. absurd (omega (arith, e, high))))))) h)
+      | inl low ↦ low
+      | inr high ↦ absurd (both_ways (is_white c)
+          (or_from (c == 32) (c == 9 || (c == 10 || c == 13)) (ne_eqb c 32 (λ e. absurd (omega (arith, e, high))))
+          (or_from (c == 9) (c == 10 || c == 13) (ne_eqb c 9 (λ e. absurd (omega (arith, e, high))))
+          (or_from (c == 10) (c == 13) (ne_eqb c 10 (λ e. absurd (omega (arith, e, high)))) (ne_eqb c 13 (λ e. absurd (omega (arith, e, high))))))) h)
     ]
 
 take_more : (n x : ℕ) (xs : List ℕ) → take (1 + n) (x ∷ xs) ≡ x ∷ take n xs
@@ -102,13 +102,13 @@ unfolding is_xml_text
 part_xml n m t white kept h =
     let all : list_all is_xml_char (chars t) ≡ true = (and_parts (is_utf8 t) (list_all is_xml_char (chars t)) h).1 in
     let apart : list_all is_xml_char (chars (take n t) ++ (chars (take m (drop n t)) ++ chars (drop m (drop n t)))) ≡ true =
-        ap (list_all is_xml_char) (sym (chars_apart n m t (IsUtf8-from_ascii (take n t) white) kept)) ∙ all in
+    ap (list_all is_xml_char) (sym (chars_apart n m t (IsUtf8-from_ascii (take n t) white) kept)) ∙ all in
     and_from (is_utf8 (take m (drop n t))) (list_all is_xml_char (chars (take m (drop n t)))) (is_utf8-from_IsUtf8 (take m (drop n t)) kept)
     (middle_xml (chars (take n t)) (chars (take m (drop n t))) (chars (drop m (drop n t))) apart)
 
 pub trim_xml : (t : List ℕ) → IsUtf8 (trim t) → IsTrue (is_xml_text t) → IsTrue (is_xml_text (trim t))
 unfolding trim
-trim_xml t kept h = h
+trim_xml t kept h = part_xml (prefix_len is_white t) (length (drop (prefix_len is_white t) t) - suffix_len is_white (drop (prefix_len is_white t) t)) t (prefix_ascii t) kept h
 
 -- what is found is one of them
 found_either : {B : Type 0} (q : B → Bool) (b : Bool) (y x : B) (rest : Option B) → Some x ≡ cond b (Some y) rest → q y ≡ true → (Some x ≡ rest → q x ≡ true) → q x ≡ true
@@ -130,7 +130,3 @@ value_xml t a h e =
     let all = and_parts (list_all is_lawful_attr t.attrs) (ascend t.attrs && fits_name t.name t.children) rest.1 in
     let one : is_lawful_attr a ≡ true = found_passes is_relationship is_lawful_attr t.attrs a e all.0 in
     (and_parts (is_lawful_name a.name && not (is_declaration a.name)) (is_xml_text a.value) one).1
-
--- to have a witness of the real body
-pub part_xml_again : (t : List ℕ) → IsUtf8 (take (length (drop (prefix_len is_white t) t) - suffix_len is_white (drop (prefix_len is_white t) t)) (drop (prefix_len is_white t) t)) → IsTrue (is_xml_text t) → IsTrue (is_xml_text (take (length (drop (prefix_len is_white t) t) - suffix_len is_white (drop (prefix_len is_white t) t)) (drop (prefix_len is_white t) t)))
-part_xml_again t kept h = part_xml (prefix_len is_white t) (length (drop (prefix_len is_white t) t) - suffix_len is_white (drop (prefix_len is_white t) t)) t (prefix_ascii t) kept h

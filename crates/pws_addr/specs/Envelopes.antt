@@ -53,13 +53,14 @@ fits text = nat_le (length text) 32768
 
 abbrev pub call_addressing : ℕ → ℕ → ℕ → Addressing
 call_addressing me called number = record {
-    to = group_address called;
-    action = call_action;
-    message_id = Some (call_id me called number);
-    relates_to = [];
-    reply_to = Some (group_address me);
-    from = None;
-    fault_to = None }
+  to = group_address called;
+  action = call_action;
+  message_id = Some (call_id me called number);
+  relates_to = [];
+  reply_to = Some (group_address me);
+  from = None;
+  fault_to = None;
+}
 
 abbrev pub call_envelope_text : ℕ → ℕ → ℕ → List ℕ → List ℕ
 call_envelope_text me called number text = envelope_text (call_addressing me called number) (message_tree call_local text)
@@ -72,13 +73,14 @@ call_text me called number text =
 -- where an answer goes: by the request's addressing, and without it to the anonymous address
 abbrev pub answer_to : Option Addressing → Addressing
 answer_to None = record {
-    to = anonymous;
-    action = reply_action;
-    message_id = None;
-    relates_to = [];
-    reply_to = None;
-    from = None;
-    fault_to = None }
+  to = anonymous;
+  action = reply_action;
+  message_id = None;
+  relates_to = [];
+  reply_to = None;
+  from = None;
+  fault_to = None;
+}
 answer_to (Some a) = reply_of a
 
 -- the reply of the group me to a caller's request with this number

@@ -3,6 +3,7 @@ pub mod Causes
 pub mod Envelopes
 pub mod Headers
 pub mod Identifiers
+pub mod Laws
 pub mod Reading
 pub mod Replies
 pub mod Requests

@@ -72,13 +72,14 @@ first_said h headers = option_and_then (said h) (find (is_block h) headers)
 -- where To is absent the message goes to the anonymous address
 abbrev pub all_said : List Tree → Addressing
 all_said headers = record {
-    to = unwrap_or (first_said header.To headers) anonymous;
-    action = unwrap_or (first_said header.Action headers) [];
-    message_id = first_said header.MessageId headers;
-    relates_to = filter_map relation_said (filter (is_block header.RelatesTo) headers);
-    reply_to = first_said header.ReplyTo headers;
-    from = first_said header.From headers;
-    fault_to = first_said header.FaultTo headers }
+  to = unwrap_or (first_said header.To headers) anonymous;
+  action = unwrap_or (first_said header.Action headers) [];
+  message_id = first_said header.MessageId headers;
+  relates_to = filter_map relation_said (filter (is_block header.RelatesTo) headers);
+  reply_to = first_said header.ReplyTo headers;
+  from = first_said header.From headers;
+  fault_to = first_said header.FaultTo headers;
+}
 
 -- the headers that stand once at most, and all, in the order in which refusals are looked for
 abbrev pub single_headers : List Header

@@ -15,10 +15,11 @@ in_reply id = record { kind = reply_relation; id = id }
 -- a reply goes to where replies are asked for, and relates to the message's identifier, where it has one
 abbrev pub reply_of : Addressing → Addressing
 reply_of a = record {
-    to = unwrap_or a.reply_to anonymous;
-    action = reply_action;
-    message_id = None;
-    relates_to = map in_reply (option_to_list a.message_id);
-    reply_to = None;
-    from = None;
-    fault_to = None }
+  to = unwrap_or a.reply_to anonymous;
+  action = reply_action;
+  message_id = None;
+  relates_to = map in_reply (option_to_list a.message_id);
+  reply_to = None;
+  from = None;
+  fault_to = None;
+}

@@ -66,10 +66,7 @@ fn subcode_of(alloc: Global, cause: Cause) -> Result<Option<Name>, Memory>
     ensures { IfOk result (λ subcode. subcode ≡ (fault_of cause).subcode) }
 {
     match cause {
-        Cause::NoAction => Ok(Some(addressing_name(
-            alloc,
-            "MessageAddressingHeaderRequired",
-        )?)),
+        Cause::NoAction => Ok(Some(addressing_name(alloc, "MessageAddressingHeaderRequired")?)),
         Cause::BadAddressing => Ok(Some(addressing_name(alloc, "InvalidAddressingHeader")?)),
         Cause::BadVersion
         | Cause::NotUnderstood
@@ -163,10 +160,7 @@ fn request_in(alloc: Global, envelope: &Envelope) -> Result<Request, Memory>
 /// # Errors
 ///
 /// `Memory` only; also where there was none when the request was read.
-pub fn request_of(
-    alloc: Global,
-    read: &Result<Envelope, SoapError>,
-) -> Result<Request, Memory>
+pub fn request_of(alloc: Global, read: &Result<Envelope, SoapError>) -> Result<Request, Memory>
     ensures { IfOk result (λ request. IsRequest read.now request) }
 {
     match read {

@@ -150,7 +150,12 @@ fn blocks_of(alloc: Global, addressing: &Addressing) -> Result<Vec<Element>, Mem
     let to = plain_block(alloc, Header::To, &addressing.to)?;
     let action = plain_block(alloc, Header::Action, &addressing.action)?;
     let mut blocks = vec![in alloc; to, action]?;
-    push_text(alloc, &mut blocks, Header::MessageId, &addressing.message_id)?;
+    push_text(
+        alloc,
+        &mut blocks,
+        Header::MessageId,
+        &addressing.message_id,
+    )?;
     push_relations(alloc, &mut blocks, addressing.relates_to.as_slice())?;
     push_text(alloc, &mut blocks, Header::ReplyTo, &addressing.reply_to)?;
     push_text(alloc, &mut blocks, Header::From, &addressing.from)?;

@@ -9,7 +9,9 @@ ghost use Rattle.pws_tree.specs.Trees.{NoNode};
 ghost use Rattle.pws_soap.specs.Envelopes.{elements};
 ghost use Rattle.pws_addr.specs.Reading.{is_block, some_text, only_text, text_said, is_address, only_of, address_said, said, is_relationship, kind_said, relation_said, first_said, all_said, single_headers, all_headers, is_twice, is_invalid, valid, required, addressing_of, Answers};
 
-use crate::headers::{ALL_HEADERS, ANONYMOUS, Addressing, Header, REPLY_RELATION, Relation, SINGLE_HEADERS};
+use crate::headers::{
+    ALL_HEADERS, ANONYMOUS, Addressing, Header, REPLY_RELATION, Relation, SINGLE_HEADERS,
+};
 use crate::xml_texts::XmlText;
 use pws_base::lists::Sequence;
 use pws_base::memory::Memory;
@@ -104,7 +106,11 @@ fn address_in(child: &Node) -> Option<&Element>
     ensures { option_to_list (option_copied result) ≡ filter is_address (elements (node_then child.now NoNode)) }
 {
     match child {
-        Node::Element(element) => if is_address(element) { Some(element) } else { None },
+        Node::Element(element) => if is_address(element) {
+            Some(element)
+        } else {
+            None
+        },
         Node::Text(_) | Node::Qualified(_) => None,
     }
 }
@@ -250,9 +256,7 @@ fn is_twice(header: Header, headers: &[Element]) -> bool
 fn is_invalid(header: Header, headers: &[Element]) -> bool
     ensures { result ≡ is_invalid headers.now header }
 {
-    headers
-        .iter()
-        .any(|block| is_block(header, block) && said(header, block).is_none())
+    headers.iter().any(|block| is_block(header, block) && said(header, block).is_none())
 }
 
 /// The first header that stands twice.
@@ -279,9 +283,7 @@ fn first_invalid(headers: &[Element]) -> Option<Header>
 fn has_action(headers: &[Element]) -> bool
     ensures { result ≡ list_any (is_block Header.Action) headers.now }
 {
-    headers
-        .iter()
-        .any(|block| is_block(Header::Action, block))
+    headers.iter().any(|block| is_block(Header::Action, block))
 }
 
 /// A copy of what a header says.
