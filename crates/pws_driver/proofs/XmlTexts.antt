@@ -1,14 +1,14 @@
 -- Texts of XML characters.
-use Rattle.std.proofs.Common.{◌≡◌, ℕ, zero, suc, ◌<◌, ◌≤◌, ◌^◌, ◌&&◌, ◌||◌, ◌==◌, Bool, true, false, List, [], ◌∷◌, ◌++◌, length, get_or, decimal, nat_le, refl, rules, sym, ◌∙◌, arith, subst}
+use Rattle.std.proofs.Common.{◌≡◌, ℕ, ◌<◌, ◌^◌, ◌&&◌, Bool, true, false, List, [], ◌∷◌, length, decimal, nat_le, refl, rules, sym, arith, subst}
 use Rattle.std.specs.List.{list_all}
-use Rattle.std.specs.Str.{IsUtf8, IsAscii, is_utf8, chars}
+use Rattle.std.specs.Str.{IsUtf8, is_utf8, chars}
 use Rattle.std.proofs.lemmas.Bool.Decides.{nat_tests}
 use Rattle.std.proofs.lemmas.Str.{is_utf8-from_IsUtf8, IsUtf8-from_is_utf8, IsUtf8-from_ascii, chars-IsAscii}
 use Rattle.std.proofs.lemmas.Str.Parse.{IsDigitsTest, IsNumeralModel, numerals_by_value}
 use Rattle.std.proofs.lemmas.Fmt.{IsAscii-decimal, digits_decimal}
 use Rattle.std.specs.Str.Parse.{digits_value}
 use Rattle.pws_script.specs.Texts.{is_character, is_text}
-use Rattle.pws_tree.specs.Characters.{is_in, is_xml_char, is_xml_text, xml_ranges}
+use Rattle.pws_tree.specs.Characters.{is_xml_char, is_xml_text, xml_ranges}
 
 -- ---- tests joined by 'and'
 

@@ -1,10 +1,9 @@
 -- Texts that have XML characters only, and others.
-use Rattle.std.proofs.Common.{◌≡◌, ℕ, ◌&&◌, Bool, true, false, if◌then◌else◌, List, [], codes, refl}
+use Rattle.std.proofs.Common.{◌≡◌, ℕ, Bool, true, false, List, [], codes, refl}
 use lib.Utf8.{encode}
-use Rattle.std.specs.List.{list_all}
 use Rattle.std.specs.Str.{IsUtf8, is_utf8, chars}
 use Rattle.std.proofs.lemmas.Str.{IsUtf8-from_is_utf8}
-use Rattle.pws_tree.specs.Characters.{is_xml_char, is_xml_text, xml_ranges}
+use Rattle.pws_tree.specs.Characters.{is_xml_text, xml_ranges}
 use Rattle.pws_driver_cases.specs.Plain.{xml_of}
 
 pub receiver_xml : is_xml_text (codes "Receiver") ≡ true
