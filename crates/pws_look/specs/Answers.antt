@@ -2,6 +2,7 @@
 use Rattle.std.specs.Prelude.{◌≡◌, ℕ, Bool, true, false, List, ◌++◌, length, codes, decimal, Option, Some, None, Result, Ok, Err}
 use Rattle.hex.specs.Hex.{encode_lower}
 use Rattle.pws_base.specs.declared.fields.FieldFault.{FieldFault}
+use Rattle.pws_base.specs.declared.shapes.ReplicaId.{ReplicaId}
 use Rattle.pws_event.specs.EventFields.{event_of}
 use Rattle.pws_event.specs.Events.{digest_of}
 use Rattle.pws_event.specs.declared.events.Event.{Event}
@@ -65,14 +66,18 @@ abbrev pub body_words : Option (List ℕ) → List ℕ
 body_words None = codes "-"
 body_words (Some body) = decimal (length body)
 
-abbrev pub packet_words : PacketFields → List ℕ
-packet_words p =
-    codes "ok " ++ content_name p.content
-    ++ codes " " ++ decimal p.sender.group ++ codes "." ++ decimal p.sender.index
-    ++ codes " to " ++ decimal p.receiver
-    ++ codes " tags " ++ decimal (length p.tags)
-    ++ codes " body " ++ body_words p.body
-    ++ codes " vouchers " ++ decimal (length p.vouchers)
+-- who says what to whom
+abbrev pub statement_words : List ℕ → ReplicaId → ℕ → List ℕ
+statement_words name sender receiver = name ++ codes " " ++ decimal sender.group ++ codes "." ++ decimal sender.index ++ codes " to " ++ decimal receiver
+
+-- how much is attached
+abbrev pub attached_words : ℕ → List ℕ → ℕ → List ℕ
+attached_words tags body vouchers = codes "tags " ++ decimal tags ++ codes " body " ++ body ++ codes " vouchers " ++ decimal vouchers
+
+abbrev pub packet_line : PacketFields → List ℕ
+packet_line p =
+    codes "ok " ++ statement_words (content_name p.content) p.sender p.receiver
+    ++ codes " " ++ attached_words (length p.tags) (body_words p.body) (length p.vouchers)
 
 abbrev pub fault_word : PacketFault → List ℕ
 fault_word fault.Long = codes "Long"
@@ -85,7 +90,7 @@ fault_word fault.Rest = codes "Rest"
 
 -- who says what to whom and how much is attached, or the refusal and its place
 abbrev pub packet_answer : Result PacketFields PacketError → Answer
-packet_answer (Ok p) = good (packet_words p)
+packet_answer (Ok p) = good (packet_line p)
 packet_answer (Err e) = refused (fault_word e.kind ++ codes " at " ++ decimal e.at)
 
 -- ---- scripts

@@ -1,6 +1,6 @@
 -- What is said of a whole input; this project's own.
-use Rattle.std.specs.Prelude.{◌≡◌, ℕ, Bool, true, false, ◌&&◌, List, [], ◌∷◌, ◌++◌, flat_map, codes, Option, Some, None, AllZip}
-use Rattle.std.specs.List.{list_all}
+use Rattle.std.specs.Prelude.{◌≡◌, ℕ, Bool, true, false, ◌&&◌, List, [], ◌∷◌, ◌++◌, flat_map, codes, Option, Some, None}
+use Rattle.std.specs.List.{list_all, AllZip}
 use Rattle.pws_sched.specs.Hexadecimal.{lower_hex}
 use Rattle.pws_script.specs.Lines.{TextLine, lines_of}
 use Rattle.pws_look.specs.Answers.{Answers, refused}
@@ -28,7 +28,7 @@ abbrev pub report_of : List Answer → Report
 report_of answers = record { text = flat_map line_of answers; good = list_all (λ a. a.good) answers }
 
 abbrev pub with_answer : Report → Answer → Report
-with_answer r a = record { text = r.text ++ a.line ++ codes "\n"; good = r.good && a.good }
+with_answer r a = record { text = r.text ++ line_of a; good = r.good && a.good }
 
 -- the report on an input of which each line is a text
 pub record ReportsLines (k : Kind) (input : List ℕ) (r : Report) : Type 0 where

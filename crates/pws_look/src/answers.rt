@@ -6,12 +6,13 @@ ghost use Rattle.std.specs.Prelude.{Ok, Err};
 ghost use Rattle.pws_event.specs.EventFields.{event_of};
 ghost use Rattle.pws_sched.specs.Words.{event_words};
 ghost use Rattle.pws_msg.specs.PacketFields.{packet_of};
-ghost use Rattle.pws_look.specs.Answers.{Answers, good, refused, event_line, event_answer, packet_answer, fault_word, script_word, content_name, body_words, packet_words, script_answer, ScriptAnswers};
+ghost use Rattle.pws_look.specs.Answers.{Answers, good, refused, event_line, event_answer, packet_answer, fault_word, script_word, content_name, body_words, statement_words, attached_words, packet_line, script_answer, ScriptAnswers};
 
 use crate::words::Kind;
 use pws_base::bytes::Bytes;
 use pws_base::fields::FieldError;
 use pws_base::memory::Memory;
+use pws_base::shapes::{GroupId, ReplicaId};
 use pws_event::events::{Event, event_digest};
 use pws_event::parsing::read_event;
 use pws_msg::contents::Content;
@@ -100,7 +101,7 @@ fn content_name(content: &Content) -> &'static str
 
 /// The length of a body, or a dash.
 fn body_words(alloc: Global, body: Option<&Bytes>) -> Result<String, Memory>
-    ensures { IfOk result (λ words. string_bytes words ≡ body_words (option_copied body)) }
+    ensures { IfOk result (λ words. string_bytes words ≡ body_words (option_copied body.entry)) }
 {
     match body {
         Some(body) => {
@@ -111,21 +112,43 @@ fn body_words(alloc: Global, body: Option<&Bytes>) -> Result<String, Memory>
     }
 }
 
-/// What is said of a packet.
-fn packet_line(alloc: Global, packet: &Packet) -> Result<String, Memory>
-    ensures { IfOk result (λ line. string_bytes line ≡ packet_words packet.now) }
+/// Who says what to whom.
+fn statement_words(
+    alloc: Global,
+    name: &str,
+    sender: ReplicaId,
+    receiver: GroupId,
+) -> Result<String, Memory>
+    ensures { IfOk result (λ words. string_bytes words ≡ statement_words name.now sender receiver) }
 {
-    let name = content_name(packet.content());
-    let sender = packet.sender();
     let group = sender.group;
     let index = sender.index;
-    let receiver = packet.receiver();
+    Ok(format!(in alloc; "{name} {group}.{index} to {receiver}")?)
+}
+
+/// How much is attached.
+fn attached_words(
+    alloc: Global,
+    tags: usize,
+    body: &str,
+    vouchers: usize,
+) -> Result<String, Memory>
+    ensures { IfOk result (λ words. string_bytes words ≡ attached_words tags body.now vouchers) }
+{
+    Ok(format!(in alloc; "tags {tags} body {body} vouchers {vouchers}")?)
+}
+
+/// What is said of a packet.
+fn packet_line(alloc: Global, packet: &Packet) -> Result<String, Memory>
+    ensures { IfOk result (λ line. string_bytes line ≡ packet_line packet.now) }
+{
+    let name = content_name(packet.content());
+    let statement = statement_words(alloc, name, packet.sender(), packet.receiver())?;
     let tags = packet.tags().len();
     let body = body_words(alloc, packet.body())?;
     let vouchers = packet.vouchers().len();
-    Ok(
-        format!(in alloc; "ok {name} {group}.{index} to {receiver} tags {tags} body {body} vouchers {vouchers}")?,
-    )
+    let attached = attached_words(alloc, tags, body.as_str(), vouchers)?;
+    Ok(format!(in alloc; "ok {statement} {attached}")?)
 }
 
 /// The word for what is wrong with a packet.
