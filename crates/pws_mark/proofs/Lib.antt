@@ -80,3 +80,5 @@ pub mod OutcomeQuestions
 pub mod OutcomeSteps
 pub mod OutcomeStops
 pub mod OutcomeTells
+pub mod TreeOf
+pub mod OneRefusal

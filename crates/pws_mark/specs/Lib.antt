@@ -25,4 +25,5 @@ pub mod States
 pub mod Texts
 pub mod TokenLaws
 pub mod Tokens
+pub mod TreeOf
 pub mod Values
