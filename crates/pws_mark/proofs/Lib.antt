@@ -91,3 +91,5 @@ pub mod SharedBytes
 pub mod TextsRead
 pub mod BeyondChars
 pub mod Stopped
+pub mod TreeOf
+pub mod OneRefusal

@@ -20,7 +20,7 @@ use Rattle.pws_mark.proofs.Spelled.{document_spelled}
 same_tree : (n m : Name) (a b : List Attr) (c d : Nodes) → n ≡ m → a ≡ b → c ≡ d → ◌≡◌ {A = Tree} (record { name = n; attrs = a; children = c }) (record { name = m; attrs = b; children = d })
 same_tree n m a b c d p q r = λ i. record { name = p i; attrs = q i; children = r i }
 
-none_same : (fs : List Fault) → ((f : Fault) → Contains fs f → Contains {X = Fault} [] f) → fs ≡ []
+pub none_same : (fs : List Fault) → ((f : Fault) → Contains fs f → Contains {X = Fault} [] f) → fs ≡ []
 none_same [] h = refl
 none_same (f ∷ fs) h = absurd (let w = h f (0, omega arith, refl) in omega (arith, w.1))
 

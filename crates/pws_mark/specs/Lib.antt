@@ -31,4 +31,5 @@ pub mod Taken
 pub mod Texts
 pub mod TokenLaws
 pub mod Tokens
+pub mod TreeOf
 pub mod Values

@@ -2,6 +2,7 @@
 
 ghost use Rattle.pws_mark.specs.CanonicalTexts.{CanonicalStands, CanonicalMayBeRead, CanonicalTellsApart, TextsAreUtf8};
 ghost use Rattle.pws_mark.specs.LawfulMeanings.{MeaningsAreLawful};
+ghost use Rattle.pws_mark.specs.TreeOf.{TreesAreMeant, ReadingGivesTheTree, OneRefusal};
 
 /// The canonical text of a lawful tree stands for that tree: a document of the grammar is spelled so, has no fault, and
 /// stands for the tree. The text has fewer than 2^64 bytes, as every text in memory has.
@@ -27,4 +28,19 @@ pub fn texts_are_utf8()
 /// A document of the grammar that has no faults stands for a lawful tree.
 pub fn meanings_are_lawful()
     ensures { MeaningsAreLawful }
+{}
+
+/// The tree of a text is the one that the text stands for, where it stands for one; so it stands for one at most.
+pub fn trees_are_meant()
+    ensures { TreesAreMeant }
+{}
+
+/// Reading answers the tree of a text, and refuses a text that has none.
+pub fn reading_gives_the_tree()
+    ensures { ReadingGivesTheTree }
+{}
+
+/// Reading refuses a text in one way.
+pub fn one_refusal()
+    ensures { OneRefusal }
 {}
