@@ -6,4 +6,5 @@ pub mod Lawful
 pub mod Made
 pub mod Read
 pub mod Roots
+pub mod Texts
 pub mod Cuts

@@ -6,4 +6,5 @@ pub mod Made
 pub mod MadeFaults
 pub mod Names
 pub mod Opened
+pub mod Reading
 pub mod White

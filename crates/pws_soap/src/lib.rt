@@ -5,7 +5,7 @@
 //! - `blocks` tells whom a header block is for, and whether it must be understood.
 //! - `envelopes` has envelopes, and `opening` the envelope that a tree is.
 //! - `faults` has faults, and the envelope round one.
-//! - `writing` writes the canonical text of an envelope.
+//! - `reading` reads an envelope from a text, and `writing` writes its canonical text.
 //! - `laws` has what holds of them all.
 //!
 //! The contract that all above rely on: `envelope_of` answers what the definition of that name, in specs/, gives for the
@@ -22,6 +22,7 @@ pub mod faults;
 pub mod laws;
 pub mod names;
 pub mod opening;
+pub mod reading;
 #[cfg(test)]
 mod tests;
 pub mod white;

@@ -1,0 +1,28 @@
+-- Which envelope a text is: the one that its tree is, or the first cause of refusal.
+use Rattle.std.specs.Prelude.{◌≡◌, ℕ, ◌≤◌, List, length, None, Result, Ok, Err, IsTrue}
+use Rattle.std.specs.List.{list_all, find}
+use Rattle.pws_tree.specs.Lawful.{is_lawful}
+use Rattle.pws_tree.specs.Trees.{Tree}
+use Rattle.pws_mark.specs.Canonical.{canonical}
+use Rattle.pws_mark.specs.Reading.{Reads}
+use Rattle.pws_mark.specs.declared.errors.ReadError.TheVariants as read_error
+use Rattle.pws_soap.specs.Blocks.{is_well_marked, is_not_understood}
+use Rattle.pws_soap.specs.Envelopes.{Enveloped, root_of, envelope_of, Answers}
+use Rattle.pws_soap.specs.declared.errors.SoapError.{SoapError}
+use Rattle.pws_soap.specs.declared.errors.SoapError.TheVariants as soap_error
+
+-- the text is that of a tree, for which this is answered
+abbrev pub ReadsTree : List ℕ → Result Enveloped SoapError → Type 0
+ReadsTree text answer = (t : Tree) × (Reads text (Ok t) × Answers (envelope_of t) answer)
+
+-- a text that is no element is refused first; for want of memory there is no rule
+abbrev pub ReadsEnvelope : List ℕ → Result Enveloped SoapError → Type 0
+ReadsEnvelope text (Err (soap_error.Mark e)) = Reads text (Err (read_error.Mark e))
+ReadsEnvelope text (Err soap_error.Memory) = Unit {0}
+ReadsEnvelope text answer = ReadsTree text answer
+
+-- reading may answer the envelope that was written
+abbrev pub WrittenAreRead : Type 0
+WrittenAreRead =
+    (e : Enveloped) → IsTrue (is_lawful (root_of e)) → length (canonical (root_of e)) ≤ 32768 → IsTrue (list_all is_well_marked e.headers) → find is_not_understood e.headers ≡ None
+    → ReadsEnvelope (canonical (root_of e)) (Ok e)
