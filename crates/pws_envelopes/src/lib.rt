@@ -1,0 +1,4 @@
+//! What the texts of envelopes mean to a service.
+#![tactic(auto)]
+
+mod bounds;
