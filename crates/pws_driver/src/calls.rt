@@ -83,7 +83,7 @@ impl Core {
         let Some(text) = self.registers.get(text).text() else {
             return Ok(Done::Fault);
         };
-        let Some(body) = E::call_text(alloc, program.me, key, text.as_slice())? else {
+        let Some(body) = E::call_text(alloc, program.me, key, text.as_str())? else {
             return Ok(Done::Fault);
         };
         self.called[group as usize] = number;
@@ -176,7 +176,7 @@ impl Core {
         if !self.asked.has(key) {
             return Ok(Done::Fault);
         }
-        let body = E::reply_text(alloc, program.me, key, message.as_slice(), text.as_slice())?;
+        let body = E::reply_text(alloc, program.me, key, message.as_slice(), text.as_str())?;
         self.asked.remove(key);
         Ok(Done::Acted(Act::Reply {
             caller: key.group,

@@ -14,12 +14,14 @@ use crate::cores::{Core, Mode};
 use crate::envelopes::Envelopes;
 use crate::keys::{Key, same_key};
 use crate::programs::Program;
+use crate::texts::{joined, literal_text};
 use crate::values::{Value, digits_or_text};
 use pws_base::bytes::Bytes;
 use pws_base::lists::ExactCopy;
 use pws_base::memory::Memory;
 use pws_script::instructions::Literal;
 use pws_script::operands::{Name, Register};
+use pws_tree::xml_texts::XmlText;
 use rand_chacha::ChaCha20Rng;
 use rand_core::utils::NextWord;
 use std::alloc::Global;
@@ -46,11 +48,11 @@ fn is_number(value: &Value, n: u64) -> bool
 }
 
 /// Whether the value is this text.
-fn is_text(value: &Value, text: &Bytes) -> bool
+fn is_text(value: &Value, text: &XmlText) -> bool
     ensures { result ≡ same_text text.now value.now }
 {
     match value {
-        Value::Text(other) => text.as_slice() == other.as_slice(),
+        Value::Text(other) => text.as_str() == other.as_str(),
         _ => false,
     }
 }
@@ -98,15 +100,6 @@ fn is_same<E: Envelopes>(alloc: Global, left: &Value, right: &Value) -> Result<b
     }
 }
 
-/// Both texts, one after the other.
-fn joined(alloc: Global, left: &Bytes, right: &Bytes) -> Result<Bytes, Memory>
-    ensures { IfOk result (λ t. t ≡ left.now ++ right.now) }
-{
-    let mut text = left.as_slice().to_vec(alloc)?;
-    text.extend_from_slice(right.as_slice())?;
-    Ok(Bytes::from_vec(text))
-}
-
 /// A number below the bound from two words of the stream.
 fn draw(stream: &mut ChaCha20Rng, bound: u64) -> u64
     requires { 0 < bound }
@@ -130,7 +123,7 @@ impl Core {
     {
         let value = match literal {
             Literal::Number(n) => Value::Number(*n),
-            Literal::Text(text) => Value::Text(Bytes::from_slice(alloc, text.as_slice())?),
+            Literal::Text(text) => Value::Text(literal_text(alloc, text)?),
         };
         self.registers.put(into, value);
         Ok(Done::Quiet)
@@ -218,7 +211,7 @@ impl Core {
             return Ok(Done::Fault);
         };
         let text = joined(alloc, &first, &second)?;
-        if text.len() > 16384 {
+        if text.as_str().len() > 16384 {
             return Ok(Done::Fault);
         }
         self.registers.put(into, Value::Text(text));
@@ -240,7 +233,7 @@ impl Core {
             return Ok(Done::Fault);
         };
         let text = E::field_text(alloc, message.as_slice(), name.as_slice())?;
-        if text.len() > 16384 {
+        if text.as_str().len() > 16384 {
             return Ok(Done::Fault);
         }
         self.registers.put(into, Value::Text(text));

@@ -25,5 +25,6 @@ mod moves;
 pub mod programs;
 pub mod runners;
 mod takings;
+mod texts;
 mod untaken;
 mod values;

@@ -5,11 +5,12 @@ ghost use Rattle.std.specs.Option.{option_map};
 ghost use Rattle.pws_driver.specs.Values.{number_of, text_of, digits_or_text_of, call_of, request_of, message_of};
 
 use crate::keys::Key;
-use itoa::Buffer;
+use crate::texts::digits;
 use pws_base::bytes::Bytes;
 use pws_base::lists::ExactCopy;
 use pws_base::memory::Memory;
 use pws_script::operands::Register;
+use pws_tree::xml_texts::XmlText;
 use std::alloc::Global;
 use std::marker::Model;
 
@@ -18,8 +19,8 @@ use std::marker::Model;
 pub(crate) enum Value {
     /// A number.
     Number(u64),
-    /// A text, of at most 16,384 bytes.
-    Text(Bytes),
+    /// A text of XML characters, of at most 16,384 bytes.
+    Text(XmlText),
     /// A call to another group.
     Call(Key),
     /// A request of another group, and its message, which a reply refers to.
@@ -63,7 +64,7 @@ impl Value {
     }
 
     /// The text, if it is one.
-    pub fn text(&self) -> Option<&Bytes>
+    pub fn text(&self) -> Option<&XmlText>
         ensures { option_map (λ t. t.now) result ≡ text_of self.now }
     {
         match self {
@@ -108,14 +109,11 @@ impl Value {
 /// # Errors
 ///
 /// `Memory` only.
-pub(crate) fn digits_or_text(alloc: Global, value: &Value) -> Result<Option<Bytes>, Memory>
+pub(crate) fn digits_or_text(alloc: Global, value: &Value) -> Result<Option<XmlText>, Memory>
     ensures { IfOk result (λ t. t ≡ digits_or_text_of value.now) }
 {
     match value {
-        Value::Number(n) => {
-            let mut buffer = Buffer::new();
-            Ok(Some(Bytes::from_slice(alloc, buffer.format(*n).as_bytes())?))
-        }
+        Value::Number(n) => Ok(Some(digits(alloc, *n)?)),
         Value::Text(text) => Ok(Some(text.copy(alloc)?)),
         _ => Ok(None),
     }

@@ -3,6 +3,7 @@ use Rattle.std.specs.Prelude.{◌≡◌, ℕ, ◌≤◌, ◌==◌, not, Bool, tr
 use Rattle.std.specs.Str.{bytes_eq}
 use Rattle.std.proofs.Common.{cond, arith, subst}
 use Rattle.std.proofs.lemmas.Bool.Decides.{nat_tests}
+use Rattle.pws_tree.specs.Characters.{is_xml_text}
 use Rattle.pws_driver.specs.Envelopes.{EnvelopeWords, TextsFit}
 
 abbrev pub is_fault : List ℕ → Bool
@@ -21,10 +22,14 @@ replied text = if nat_le (length text) 32768 then text else codes "!reply too lo
 abbrev pub only_if : Bool → List ℕ → List ℕ
 only_if b text = if b then text else []
 
+-- the text, if it has XML characters only
+abbrev pub xml_of : List ℕ → List ℕ
+xml_of text = if is_xml_text text then text else []
+
 abbrev pub field_of : List ℕ → List ℕ → List ℕ
 field_of message name =
-    if bytes_eq name (codes "text") then only_if (not (is_fault message)) message
-    else if bytes_eq name (codes "Reason") then only_if (is_fault message) (drop 1 message)
+    if bytes_eq name (codes "text") then only_if (not (is_fault message)) (xml_of message)
+    else if bytes_eq name (codes "Reason") then only_if (is_fault message) (xml_of (drop 1 message))
     else if bytes_eq name (codes "Code") then only_if (is_fault message) (codes "Receiver")
     else []
 

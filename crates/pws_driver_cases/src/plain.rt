@@ -1,13 +1,16 @@
 //! Texts in the place of envelopes.
 
-ghost use Rattle.std.specs.Prelude.{◌≡◌, drop, IfOk};
-ghost use Rattle.pws_driver_cases.specs.Plain.{is_fault, fitting, only_if, field_of};
+ghost use Rattle.std.specs.Prelude.{◌≡◌, drop, IfOk, IsTrue};
+ghost use Rattle.pws_tree.specs.Characters.{is_xml_text};
+ghost use Rattle.pws_driver_cases.specs.Plain.{is_fault, fitting, only_if, xml_of, field_of};
 
 use pws_base::bytes::Bytes;
 use pws_base::memory::Memory;
 use pws_base::shapes::GroupId;
 use pws_driver::envelopes::Envelopes;
 use pws_driver::keys::Key;
+use pws_tree::characters::is_xml_text;
+use pws_tree::xml_texts::XmlText;
 use std::alloc::Global;
 
 /// Texts in the place of envelopes: a message is its text, and one that begins with an exclamation mark is a fault.
@@ -30,13 +33,21 @@ fn fitting(alloc: Global, text: &[u8]) -> Result<Option<Bytes>, Memory>
     }
 }
 
-fn only_if(alloc: Global, some: bool, text: &[u8]) -> Result<Bytes, Memory>
+fn only_if(alloc: Global, some: bool, text: &str) -> Result<XmlText, Memory>
+    requires { IsTrue (is_xml_text text.now) }
     ensures { IfOk result (λ t. t ≡ only_if some text.now) }
 {
-    if some {
-        Bytes::from_slice(alloc, text)
-    } else {
-        Ok(Bytes::new(alloc))
+    XmlText::from_str(alloc, if some { text } else { "" })
+}
+
+/// The text, if it has XML characters only.
+fn xml_of(bytes: &[u8]) -> &str
+    ensures value { result.now ≡ xml_of bytes.now }
+    ensures xml { IsTrue (is_xml_text result.now) }
+{
+    match str::from_utf8(bytes) {
+        Ok(text) => if is_xml_text(text) { text } else { "" },
+        Err(_) => "",
     }
 }
 
@@ -46,20 +57,20 @@ fn rest(text: &[u8]) -> &[u8]
     if text.is_empty() { text } else { &text[1..] }
 }
 
-fn field_of(alloc: Global, message: &[u8], name: &[u8]) -> Result<Bytes, Memory>
+fn field_of(alloc: Global, message: &[u8], name: &[u8]) -> Result<XmlText, Memory>
     ensures { IfOk result (λ t. t ≡ field_of message.now name.now) }
 {
     let fault = is_fault(message);
     if name == b"text".as_slice() {
-        return only_if(alloc, !fault, message);
+        return only_if(alloc, !fault, xml_of(message));
     }
     if name == b"Reason".as_slice() {
-        return only_if(alloc, fault, rest(message));
+        return only_if(alloc, fault, xml_of(rest(message)));
     }
     if name == b"Code".as_slice() {
-        return only_if(alloc, fault, b"Receiver");
+        return only_if(alloc, fault, "Receiver");
     }
-    Ok(Bytes::new(alloc))
+    only_if(alloc, false, "")
 }
 
 impl Envelopes for Plain {
@@ -73,9 +84,9 @@ impl Envelopes for Plain {
         alloc: Global,
         _me: GroupId,
         _key: Key,
-        text: &[u8],
+        text: &str,
     ) -> Result<Option<Bytes>, Memory> {
-        fitting(alloc, text)
+        fitting(alloc, text.as_bytes())
     }
 
     fn refusal_of(
@@ -96,10 +107,10 @@ impl Envelopes for Plain {
         _me: GroupId,
         _key: Key,
         _message: &[u8],
-        text: &[u8],
+        text: &str,
     ) -> Result<Bytes, Memory> {
         if text.len() <= 32768 {
-            Bytes::from_slice(alloc, text)
+            Bytes::from_slice(alloc, text.as_bytes())
         } else {
             Bytes::from_slice(alloc, b"!reply too long")
         }
@@ -125,7 +136,7 @@ impl Envelopes for Plain {
         Ok(message == other)
     }
 
-    fn field_text(alloc: Global, message: &[u8], name: &[u8]) -> Result<Bytes, Memory> {
+    fn field_text(alloc: Global, message: &[u8], name: &[u8]) -> Result<XmlText, Memory> {
         field_of(alloc, message, name)
     }
 }

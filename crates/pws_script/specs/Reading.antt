@@ -29,11 +29,15 @@ bytes_after false (c ∷ cs) =
       more ← bytes_after false cs
       Ok (c ∷ more)
 
+-- the text of these bytes, if a literal can have it
+abbrev pub text_from : List ℕ → Result (List ℕ) ScriptFault
+text_from bytes = if is_text bytes then Ok bytes else Err fault.Text
+
 -- the text of a literal that begins with a quote
 unfoldable pub text_at : List ℕ → Result (List ℕ) ScriptFault
 text_at quoted = do
   bytes ← bytes_after false (drop 1 quoted)
-  if is_text bytes then Ok bytes else Err fault.Text
+  text_from bytes
 
 -- the second word, and the rest of the line after the second space, where the first word is `set` and a double
 -- quote follows that space

@@ -1,6 +1,7 @@
 //! What the instructions of a script work on.
 
 ghost use Rattle.std.specs.Prelude.{◌≡◌, ◌<◌, ◌≤◌, length, true};
+ghost use Rattle.std.specs.String.{string_bytes};
 ghost use Rattle.pws_script.specs.Texts.{is_text, is_name};
 
 use pws_base::bytes::Bytes;
@@ -81,38 +82,39 @@ impl Group {
     }
 }
 
-/// A text that a literal can have: UTF-8, of XML characters, at most 4,096 bytes.
+/// A text that a literal can have: of XML characters, at most 4,096 bytes in UTF-8.
 #[derive(Debug, Drop)]
 pub struct Text {
-    bytes: Bytes,
+    inner: String,
 }
 
 impl Model for Text {
     ghost use Rattle.std.specs.Prelude.{◌≡◌, ℕ, List, true};
+    ghost use Rattle.std.specs.String.{string_bytes};
     ghost use Rattle.pws_script.specs.Texts.{is_text};
 
     ghost Value = { List ℕ };
 
-    ghost view = { λ t. t.bytes };
+    ghost view = { λ t. string_bytes t.inner };
 
-    ghost invariant = { λ t. is_text t.bytes ≡ true };
+    ghost invariant = { λ t. is_text (string_bytes t.inner) ≡ true };
 }
 
 impl Text {
-    /// The text of these bytes, which a literal can have.
-    pub fn new(bytes: Bytes) -> Text
-        requires { is_text bytes ≡ true }
-        ensures { result ≡ bytes }
+    /// The text of this string, which a literal can have.
+    pub fn new(inner: String) -> Text
+        requires { is_text (string_bytes inner) ≡ true }
+        ensures { result ≡ string_bytes inner }
     {
-        Text { bytes }
+        Text { inner }
     }
 
-    /// The bytes of the text.
-    pub fn as_slice(&self) -> &[u8]
+    /// The text.
+    pub fn as_str(&self) -> &str
         ensures value { result.now ≡ self.now }
         ensures lawful { is_text self.now ≡ true }
     {
-        self.bytes.as_slice()
+        self.inner.as_str()
     }
 }
 
@@ -121,7 +123,7 @@ impl Clone for Text {
 
     fn clone(&self) -> Result<Text, AllocError> {
         Ok(Text {
-            bytes: self.bytes.clone()?,
+            inner: self.inner.clone()?,
         })
     }
 }
@@ -137,7 +139,7 @@ impl PartialEq for Text {
     ghost laws = { Prim.search (comparing, rules) };
 
     fn eq(&self, other: &Text) -> bool {
-        self.bytes == other.bytes
+        self.inner.as_str() == other.inner.as_str()
     }
 }
 
@@ -151,7 +153,7 @@ impl Eq for Text {
 impl ExactCopy for Text {
     fn copy(&self, alloc: Global) -> Result<Text, Memory> {
         Ok(Text {
-            bytes: self.bytes.copy(alloc)?,
+            inner: String::from_str(alloc, self.inner.as_str())?,
         })
     }
 }

@@ -81,7 +81,7 @@ fn put_literal(text: &mut Writer, literal: &Literal) -> Result<(), Memory>
 {
     match literal {
         Literal::Number(number) => put_number(text, *number),
-        Literal::Text(bytes) => put_quoted(text, bytes.as_slice()),
+        Literal::Text(literal) => put_quoted(text, literal.as_str().as_bytes()),
     }
 }
 

@@ -3,13 +3,13 @@
 ghost use Rattle.std.specs.Prelude.{◌≡◌, ◌≤◌, false, length};
 ghost use Rattle.std.specs.List.{list_all};
 ghost use Rattle.std.specs.Str.{chars};
-ghost use Rattle.pws_script.specs.Reading.{unescaped, bytes_after, text_at};
+ghost use Rattle.std.specs.String.{string_bytes};
+ghost use Rattle.pws_script.specs.Reading.{unescaped, bytes_after, text_from, text_at};
 ghost use Rattle.pws_script.specs.Steps.{Gives};
 ghost use Rattle.pws_script.specs.Texts.{is_character, is_text};
 
 use crate::faults::{LineError, ScriptFault};
 use crate::operands::Text;
-use pws_base::bytes::Bytes;
 use std::alloc::Global;
 
 /// Whether XML has this character.
@@ -26,13 +26,10 @@ fn has_characters_only(text: &str) -> bool
 }
 
 /// Whether a literal can have this text.
-fn is_text(bytes: &[u8]) -> bool
-    ensures { result ≡ is_text bytes.now }
+fn is_text(text: &str) -> bool
+    ensures { result ≡ is_text text.now }
 {
-    match str::from_utf8(bytes) {
-        Ok(text) => has_characters_only(text) && bytes.len() <= 4096,
-        Err(_) => false,
-    }
+    has_characters_only(text) && text.len() <= 4096
 }
 
 /// The byte that stands for itself or for a line feed after a backslash.
@@ -71,6 +68,27 @@ fn unquote(alloc: Global, quoted: &[u8]) -> Result<Vec<u8>, LineError>
     Err(LineError::Fault(ScriptFault::Text))
 }
 
+/// This text, if a literal can have it.
+fn lawful(text: String) -> Result<Text, ScriptFault>
+    ensures { result ≡ text_from (string_bytes text) }
+{
+    if is_text(text.as_str()) {
+        Ok(Text::new(text))
+    } else {
+        Err(ScriptFault::Text)
+    }
+}
+
+/// The text of these bytes, if a literal can have it.
+fn text_from(bytes: Vec<u8>) -> Result<Text, ScriptFault>
+    ensures { result ≡ text_from bytes.items }
+{
+    match String::from_utf8(bytes) {
+        Ok(text) => lawful(text),
+        Err(_) => Err(ScriptFault::Text),
+    }
+}
+
 /// The text of a literal that begins with a quote.
 #[tactic(auto, unfolding(crate::specs::Reading::text_at))]
 pub(crate) fn read_text(alloc: Global, literal: &[u8]) -> Result<Text, LineError>
@@ -78,9 +96,5 @@ pub(crate) fn read_text(alloc: Global, literal: &[u8]) -> Result<Text, LineError
     ensures { Gives (λ t. t) result (text_at literal.now) }
 {
     let bytes = unquote(alloc, &literal[1..])?;
-    if is_text(&bytes) {
-        Ok(Text::new(Bytes::from_vec(bytes)))
-    } else {
-        Err(LineError::Fault(ScriptFault::Text))
-    }
+    Ok(text_from(bytes)?)
 }
