@@ -3,8 +3,7 @@ use Rattle.std.proofs.Common.{◌≡◌, ℕ, zero, suc, ◌<◌, ◌≤◌, ◌
 use Rattle.std.specs.List.{list_all}
 use Rattle.std.specs.Str.{IsUtf8, IsAscii, is_utf8, chars}
 use Rattle.std.proofs.lemmas.Bool.Decides.{nat_tests}
-use Rattle.std.proofs.lemmas.List.Folds.{list_all-append}
-use Rattle.std.proofs.lemmas.Str.{is_utf8-from_IsUtf8, IsUtf8-from_is_utf8, IsUtf8-append, IsUtf8-from_ascii, chars-append, chars-IsAscii}
+use Rattle.std.proofs.lemmas.Str.{is_utf8-from_IsUtf8, IsUtf8-from_is_utf8, IsUtf8-from_ascii, chars-IsAscii}
 use Rattle.std.proofs.lemmas.Str.Parse.{IsDigitsTest, IsNumeralModel, numerals_by_value}
 use Rattle.std.proofs.lemmas.Fmt.{IsAscii-decimal, digits_decimal}
 use Rattle.std.specs.Str.Parse.{digits_value}
@@ -29,19 +28,6 @@ either : (a b d : Bool) → (a ≡ true → d ≡ true) → (b ≡ true → d �
 either true b d f g h = f refl
 either false b d f g h = g h
 
--- ---- what is known of a text
-
-record Known (t : List ℕ) : Type 0 where
-  pub utf8 : IsUtf8 t
-  pub xml : list_all is_xml_char (chars t) ≡ true
-
-known : (t : List ℕ) → is_xml_text t ≡ true → Known t
-unfolding is_xml_text
-known t h = record {
-  utf8 = IsUtf8-from_is_utf8 t (first_true (is_utf8 t) (list_all is_xml_char (chars t)) h);
-  xml = second_true (is_utf8 t) (list_all is_xml_char (chars t)) h;
-}
-
 xml_from : (t : List ℕ) → IsUtf8 t → list_all is_xml_char (chars t) ≡ true → is_xml_text t ≡ true
 unfolding is_xml_text
 xml_from t u h = both_true (is_utf8 t) (list_all is_xml_char (chars t)) (is_utf8-from_IsUtf8 t u) h
@@ -62,16 +48,6 @@ unfolding is_text
 literal_xml t h =
     let text = first_true (is_utf8 t && list_all is_character (chars t)) (nat_le (length t) 4096) h in
     xml_from t (IsUtf8-from_is_utf8 t (first_true (is_utf8 t) (list_all is_character (chars t)) text)) (characters_xml (chars t) (second_true (is_utf8 t) (list_all is_character (chars t)) text))
-
--- ---- texts joined
-
-pub appended_xml : (s t : List ℕ) → is_xml_text s ≡ true → is_xml_text t ≡ true → is_xml_text (s ++ t) ≡ true
-appended_xml s t h g =
-    let a = known s h in
-    let b = known t g in
-    xml_from (s ++ t) (IsUtf8-append s t a.utf8 b.utf8)
-    (subst (λ cs. list_all is_xml_char cs ≡ true) (sym (chars-append s t a.utf8))
-    (list_all-append is_xml_char (chars s) (chars t) ∙ both_true (list_all is_xml_char (chars s)) (list_all is_xml_char (chars t)) a.xml b.xml))
 
 -- ---- numbers
 

@@ -3,6 +3,7 @@
 ghost use Rattle.std.specs.Prelude.{◌≡◌, ◌++◌, decimal, IfOk};
 
 use itoa::Buffer;
+use pws_base::lists::ExactCopy;
 use pws_base::memory::Memory;
 use pws_script::operands::Text;
 use pws_tree::xml_texts::XmlText;
@@ -26,11 +27,10 @@ pub(crate) fn digits(alloc: Global, n: u64) -> Result<XmlText, Memory>
 }
 
 /// Both texts, one after the other.
-#[tactic(auto, using(crate::proofs::XmlTexts::appended_xml))]
 pub(crate) fn joined(alloc: Global, left: &XmlText, right: &XmlText) -> Result<XmlText, Memory>
     ensures { IfOk result (λ t. t ≡ left.now ++ right.now) }
 {
-    let mut text = String::from_str(alloc, left.as_str())?;
+    let mut text = left.copy(alloc)?;
     text.push_str(right.as_str())?;
-    Ok(XmlText::from_string(text))
+    Ok(text)
 }
