@@ -24,9 +24,6 @@ both_true : (a b : Bool) → a ≡ true → b ≡ true → (a && b) ≡ true
 both_true true b h g = g
 both_true false b h g = h
 
-either : (a b d : Bool) → (a ≡ true → d ≡ true) → (b ≡ true → d ≡ true) → (a || b) ≡ true → d ≡ true
-either true b d f g h = f refl
-either false b d f g h = g h
 
 xml_from : (t : List ℕ) → IsUtf8 t → list_all is_xml_char (chars t) ≡ true → is_xml_text t ≡ true
 unfolding is_xml_text

@@ -1,7 +1,6 @@
 //! Texts in the place of envelopes.
 
-ghost use Rattle.std.specs.Prelude.{◌≡◌, drop, IfOk, IsTrue};
-ghost use Rattle.pws_tree.specs.Characters.{is_xml_text};
+ghost use Rattle.std.specs.Prelude.{◌≡◌, drop, codes, IfOk};
 ghost use Rattle.pws_driver_cases.specs.Plain.{is_fault, fitting, only_if, xml_of, field_of};
 
 use pws_base::bytes::Bytes;
@@ -33,22 +32,38 @@ fn fitting(alloc: Global, text: &[u8]) -> Result<Option<Bytes>, Memory>
     }
 }
 
-fn only_if(alloc: Global, some: bool, text: &str) -> Result<XmlText, Memory>
-    requires { IsTrue (is_xml_text text.now) }
-    ensures { IfOk result (λ t. t ≡ only_if some text.now) }
+fn only_if(alloc: Global, some: bool, text: XmlText) -> XmlText
+    ensures { result ≡ only_if some text }
 {
-    XmlText::from_str(alloc, if some { text } else { "" })
+    if some { text } else { XmlText::new(alloc) }
 }
 
-/// The text, if it has XML characters only.
-fn xml_of(bytes: &[u8]) -> &str
-    ensures value { result.now ≡ xml_of bytes.now }
-    ensures xml { IsTrue (is_xml_text result.now) }
+/// This text, if it has XML characters only.
+fn xml_text_of(alloc: Global, text: &str) -> Result<XmlText, Memory>
+    ensures { IfOk result (λ t. t ≡ xml_of text.now) }
+{
+    if is_xml_text(text) {
+        XmlText::from_str(alloc, text)
+    } else {
+        Ok(XmlText::new(alloc))
+    }
+}
+
+/// The text of these bytes, if they are one and it has XML characters only.
+fn xml_of(alloc: Global, bytes: &[u8]) -> Result<XmlText, Memory>
+    ensures { IfOk result (λ t. t ≡ xml_of bytes.now) }
 {
     match str::from_utf8(bytes) {
-        Ok(text) => if is_xml_text(text) { text } else { "" },
-        Err(_) => "",
+        Ok(text) => xml_text_of(alloc, text),
+        Err(_) => Ok(XmlText::new(alloc)),
     }
+}
+
+#[tactic(auto, using(crate::proofs::XmlTexts::receiver_xml))]
+fn receiver(alloc: Global) -> Result<XmlText, Memory>
+    ensures { IfOk result (λ t. t ≡ codes "Receiver") }
+{
+    XmlText::from_str(alloc, "Receiver")
 }
 
 fn rest(text: &[u8]) -> &[u8]
@@ -62,15 +77,15 @@ fn field_of(alloc: Global, message: &[u8], name: &[u8]) -> Result<XmlText, Memor
 {
     let fault = is_fault(message);
     if name == b"text".as_slice() {
-        return only_if(alloc, !fault, xml_of(message));
+        return Ok(only_if(alloc, !fault, xml_of(alloc, message)?));
     }
     if name == b"Reason".as_slice() {
-        return only_if(alloc, fault, xml_of(rest(message)));
+        return Ok(only_if(alloc, fault, xml_of(alloc, rest(message))?));
     }
     if name == b"Code".as_slice() {
-        return only_if(alloc, fault, "Receiver");
+        return Ok(only_if(alloc, fault, receiver(alloc)?));
     }
-    only_if(alloc, false, "")
+    Ok(XmlText::new(alloc))
 }
 
 impl Envelopes for Plain {
