@@ -1,2 +1,1 @@
 pub mod FieldTexts
-pub mod Lengths

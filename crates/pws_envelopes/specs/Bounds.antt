@@ -1,9 +1,9 @@
 -- A bound on the length of a canonical text, by the lengths of what the tree has; it is here for the proofs alone.
-use Rattle.std.specs.Prelude.{ℕ, ◌+◌, ◌*◌, ◌≤◌, List, [], ◌∷◌, length}
+use Rattle.std.specs.Prelude.{ℕ, ◌+◌, ◌*◌, List, [], ◌∷◌, length}
 use Rattle.pws_tree.specs.Trees.{Tree, Nodes, NoNode, TextThen, QualifiedThen, ElementThen}
 use Rattle.pws_tree.specs.declared.texts.Name.{Name}
 use Rattle.pws_tree.specs.declared.texts.Attr.{Attr}
-use Rattle.pws_mark.specs.Canonical.{canonical, tree_uses}
+use Rattle.pws_mark.specs.Canonical.{tree_uses}
 
 -- a prefix has at most 65 bytes
 abbrev pub name_bound : Name → ℕ
@@ -27,6 +27,3 @@ spaces_bound (space ∷ spaces) = 75 + 6 * length space + spaces_bound spaces
 
 abbrev pub text_bound : Tree → ℕ
 text_bound t = 5 + 2 * name_bound t.name + attrs_bound t.attrs + nodes_bound t.children + spaces_bound (tree_uses t)
-
-abbrev pub TextsAreBounded : Type 0
-TextsAreBounded = (t : Tree) → length (canonical t) ≤ text_bound t

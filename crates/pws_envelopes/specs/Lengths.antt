@@ -1,4 +1,4 @@
--- A canonical text isn't longer than its bound.
+-- A canonical text isn't longer than its bound. It is here for the law that bodies fit.
 use Rattle.std.proofs.Common.{◌≡◌, ℕ, zero, suc, ◌+◌, ◌*◌, ◌<◌, ◌≤◌, ◌==◌, ◌&&◌, not, Bool, true, false, cond, nat_lt, List, [], ◌∷◌, ◌++◌, length, map, Option, Some, None, unwrap_or, refl, ap, subst, sym, ◌∙◌, arith, codes, decimal, ◌/◌, ◌%◌}
 use Rattle.std.proofs.lemmas.List.{length-append}
 use Rattle.std.specs.List.{flat_map, list_any, fold, position, enumerate_from}
@@ -9,7 +9,7 @@ use Rattle.pws_tree.specs.Trees.{Tree, Nodes, NoNode, TextThen, QualifiedThen, E
 use Rattle.pws_tree.specs.declared.texts.Name.{Name}
 use Rattle.pws_tree.specs.declared.texts.Attr.{Attr}
 use Rattle.pws_mark.specs.Canonical.{canonical, tree_uses, tag_uses, uses, needs_prefix, with_space, spaces_of, prefix_text, name_text, text_byte, value_byte, value_text, attr_text, declaration_word, declaration_text, start_text, end_text, nodes_text, declarations_text, xml_space, xml_word}
-use Rattle.pws_envelopes.specs.Bounds.{name_bound, attrs_bound, nodes_bound, spaces_bound, text_bound, TextsAreBounded}
+use Rattle.pws_envelopes.specs.Bounds.{name_bound, attrs_bound, nodes_bound, spaces_bound, text_bound}
 
 -- ---- lengths of what is joined
 
@@ -138,7 +138,7 @@ nodes_short spaces (ElementThen n attrs inner rest) =
     let c = both (start_text spaces [] n attrs) (nodes_text spaces inner ++ (end_text spaces n ++ nodes_text spaces rest)) (2 + name_bound n + 0 + attrs_bound attrs) (nodes_bound inner + (3 + name_bound n + nodes_bound rest)) (start_short spaces [] n attrs 0 (omega arith)) b in
     omega (arith, c)
 
-pub texts_are_bounded : TextsAreBounded
+pub texts_are_bounded : (t : Tree) → length (canonical t) ≤ text_bound t
 texts_are_bounded t =
     let known = folded [] (tree_uses t) in
     let declared = declarations_short 0 (spaces_of t) in
