@@ -52,7 +52,7 @@ abbrev pub field_in : Option Enveloped → List ℕ → List ℕ
 field_in None name = []
 field_in (Some e) name = field_of e.body name
 
--- the text by which an envelope is written
+-- the text by which an envelope is written; two messages are the same where they are written alike
 abbrev pub written_of : Option Enveloped → Option (List ℕ)
 written_of None = None
 written_of (Some e) = Some (canonical (root_of e))
@@ -62,10 +62,6 @@ same_text None None = true
 same_text None (Some t) = false
 same_text (Some s) None = false
 same_text (Some s) (Some t) = bytes_eq s t
-
--- two messages are the same where they are written alike
-abbrev pub same_envelope : Option Enveloped → Option Enveloped → Bool
-same_envelope d e = same_text (written_of d) (written_of e)
 
 -- ---- what a service makes of them
 
@@ -78,7 +74,7 @@ soap_words = record {
   is_readable = λ body. is_some (envelope_at body);
   unreadable = bare_fault_text cause.UnreadableReply;
   timed_out = bare_fault_text cause.TimedOut;
-  same_message = λ message other. same_envelope (envelope_at message) (envelope_at other);
+  same_message = λ message other. same_text (written_of (envelope_at message)) (written_of (envelope_at other));
   field_text = λ message name. field_in (envelope_at message) name;
 }
 
