@@ -1,0 +1,5 @@
+pub mod Bounds
+pub mod FaultsFit
+pub mod Fields
+pub mod Lengths
+pub mod SoapWords
