@@ -206,14 +206,12 @@ pub(crate) fn rows_6() -> &'static [[&'static str; 4]] {
 }
 
 pub(crate) fn rows_7() -> &'static [[&'static str; 4]] {
-    &[
-        [
-            "same-of-messages-that-differ",
-            "0 00",
-            "set r0 \"x\"\ncall r1 1 r0 0\ncall r1 1 r0 0\ncall r1 1 r0 0\ncall r1 1 r0 0\ncall r1 1 r0 0\ncall r1 1 r0 0\ncall r1 1 r0 0\ncall r1 1 r0 0\ncall r1 1 r0 0\ncall r1 1 r0 0\ncall r1 1 r0 0\ncall r1 1 r0 0\ncall r1 1 r0 0\nnext r2 r3\nset r9 \"\"\nnext r2 r4\nsame r5 r3 r4\njoin r9 r9 r5\nnext r2 r4\nsame r5 r3 r4\njoin r9 r9 r5\nnext r2 r4\nsame r5 r3 r4\njoin r9 r9 r5\nnext r2 r4\nsame r5 r3 r4\njoin r9 r9 r5\nnext r2 r4\nsame r5 r3 r4\njoin r9 r9 r5\nnext r2 r4\nsame r5 r3 r4\njoin r9 r9 r5\nnext r2 r4\nsame r5 r3 r4\njoin r9 r9 r5\nnext r2 r4\nsame r5 r3 r4\njoin r9 r9 r5\nnext r2 r4\nsame r5 r3 r4\njoin r9 r9 r5\nnext r2 r4\nsame r5 r3 r4\njoin r9 r9 r5\nnext r2 r4\nsame r5 r3 r4\njoin r9 r9 r5\nnext r2 r4\nsame r5 r3 r4\njoin r9 r9 r5\ncall r31 1 r9 0\nstop\n",
-            "call 1 1 1 0 `C1`M0:1:1`A0`Tx`c~call 1 2 1 0 `C1`M0:1:2`A0`Tx`c~call 1 3 1 0 `C1`M0:1:3`A0`Tx`c~call 1 4 1 0 `C1`M0:1:4`A0`Tx`c~call 1 5 1 0 `C1`M0:1:5`A0`Tx`c~call 1 6 1 0 `C1`M0:1:6`A0`Tx`c~call 1 7 1 0 `C1`M0:1:7`A0`Tx`c~call 1 8 1 0 `C1`M0:1:8`A0`Tx`c~call 1 9 1 0 `C1`M0:1:9`A0`Tx`c~call 1 10 1 0 `C1`M0:1:10`A0`Tx`c~call 1 11 1 0 `C1`M0:1:11`A0`Tx`c~call 1 12 1 0 `C1`M0:1:12`A0`Tx`c~call 1 13 1 0 `C1`M0:1:13`A0`Tx`c~|020100000001000000ba `e xmlns:w=\"http://www.w3.org/2005/08/addressing\"><e:Header>`o<b x=\"1\">t<c>u</c><d/></b>`z~|020100000002000000ba `e xmlns:w=\"http://www.w3.org/2005/08/addressing\"><e:Header>`o<B x=\"1\">t<c>u</c><d/></B>`z~|020100000003000000c4 `e xmlns:w=\"http://www.w3.org/2005/08/addressing\"><e:Header>`o<b xmlns=\"u\" x=\"1\">t<c>u</c><d/></b>`z~|020100000004000000ba `e xmlns:w=\"http://www.w3.org/2005/08/addressing\"><e:Header>`o<b x=\"2\">t<c>u</c><d/></b>`z~|020100000005000000bf `e xmlns:w=\"http://www.w3.org/2005/08/addressing\"><e:Header>`o<b x=\"1\" y=\"\">t<c>u</c><d/></b>`z~|020100000006000000b4 `e xmlns:w=\"http://www.w3.org/2005/08/addressing\"><e:Header>`o<b>t<c>u</c><d/></b>`z~|020100000007000000ba `e xmlns:w=\"http://www.w3.org/2005/08/addressing\"><e:Header>`o<b x=\"1\">T<c>u</c><d/></b>`z~|020100000008000000ba `e xmlns:w=\"http://www.w3.org/2005/08/addressing\"><e:Header>`o<b x=\"1\">t<c>v</c><d/></b>`z~|020100000009000000ba `e xmlns:w=\"http://www.w3.org/2005/08/addressing\"><e:Header>`o<b x=\"1\">t<d/><c>u</c></b>`z~|02010000000a000000b6 `e xmlns:w=\"http://www.w3.org/2005/08/addressing\"><e:Header>`o<b x=\"1\">t<c>u</c></b>`z~|02010000000b000000b9 `e xmlns:w=\"http://www.w3.org/2005/08/addressing\"><e:Header>`o<b x=\"1\"><c>u</c><d/></b>`z~|02010000000c000000bb `e xmlns:w=\"http://www.w3.org/2005/08/addressing\"><e:Header>`o<b x=\"1\">t<c>u</c><d/></b> `z~|02010000000d000000ba `e xmlns:w=\"http://www.w3.org/2005/08/addressing\"><e:Header>`o<b x=\"1\">t<c>u</c><d/></b>`z~call 1 14 14 0 `C1`M0:1:14`A0`T000000000001`c~halted~",
-        ],
-    ]
+    &[[
+        "same-of-messages-that-differ",
+        "0 00",
+        "set r0 \"x\"\ncall r1 1 r0 0\ncall r1 1 r0 0\ncall r1 1 r0 0\ncall r1 1 r0 0\ncall r1 1 r0 0\ncall r1 1 r0 0\ncall r1 1 r0 0\ncall r1 1 r0 0\ncall r1 1 r0 0\ncall r1 1 r0 0\ncall r1 1 r0 0\ncall r1 1 r0 0\ncall r1 1 r0 0\nnext r2 r3\nset r9 \"\"\nnext r2 r4\nsame r5 r3 r4\njoin r9 r9 r5\nnext r2 r4\nsame r5 r3 r4\njoin r9 r9 r5\nnext r2 r4\nsame r5 r3 r4\njoin r9 r9 r5\nnext r2 r4\nsame r5 r3 r4\njoin r9 r9 r5\nnext r2 r4\nsame r5 r3 r4\njoin r9 r9 r5\nnext r2 r4\nsame r5 r3 r4\njoin r9 r9 r5\nnext r2 r4\nsame r5 r3 r4\njoin r9 r9 r5\nnext r2 r4\nsame r5 r3 r4\njoin r9 r9 r5\nnext r2 r4\nsame r5 r3 r4\njoin r9 r9 r5\nnext r2 r4\nsame r5 r3 r4\njoin r9 r9 r5\nnext r2 r4\nsame r5 r3 r4\njoin r9 r9 r5\nnext r2 r4\nsame r5 r3 r4\njoin r9 r9 r5\ncall r31 1 r9 0\nstop\n",
+        "call 1 1 1 0 `C1`M0:1:1`A0`Tx`c~call 1 2 1 0 `C1`M0:1:2`A0`Tx`c~call 1 3 1 0 `C1`M0:1:3`A0`Tx`c~call 1 4 1 0 `C1`M0:1:4`A0`Tx`c~call 1 5 1 0 `C1`M0:1:5`A0`Tx`c~call 1 6 1 0 `C1`M0:1:6`A0`Tx`c~call 1 7 1 0 `C1`M0:1:7`A0`Tx`c~call 1 8 1 0 `C1`M0:1:8`A0`Tx`c~call 1 9 1 0 `C1`M0:1:9`A0`Tx`c~call 1 10 1 0 `C1`M0:1:10`A0`Tx`c~call 1 11 1 0 `C1`M0:1:11`A0`Tx`c~call 1 12 1 0 `C1`M0:1:12`A0`Tx`c~call 1 13 1 0 `C1`M0:1:13`A0`Tx`c~|020100000001000000ba `e xmlns:w=\"http://www.w3.org/2005/08/addressing\"><e:Header>`o<b x=\"1\">t<c>u</c><d/></b>`z~|020100000002000000ba `e xmlns:w=\"http://www.w3.org/2005/08/addressing\"><e:Header>`o<B x=\"1\">t<c>u</c><d/></B>`z~|020100000003000000c4 `e xmlns:w=\"http://www.w3.org/2005/08/addressing\"><e:Header>`o<b xmlns=\"u\" x=\"1\">t<c>u</c><d/></b>`z~|020100000004000000ba `e xmlns:w=\"http://www.w3.org/2005/08/addressing\"><e:Header>`o<b x=\"2\">t<c>u</c><d/></b>`z~|020100000005000000bf `e xmlns:w=\"http://www.w3.org/2005/08/addressing\"><e:Header>`o<b x=\"1\" y=\"\">t<c>u</c><d/></b>`z~|020100000006000000b4 `e xmlns:w=\"http://www.w3.org/2005/08/addressing\"><e:Header>`o<b>t<c>u</c><d/></b>`z~|020100000007000000ba `e xmlns:w=\"http://www.w3.org/2005/08/addressing\"><e:Header>`o<b x=\"1\">T<c>u</c><d/></b>`z~|020100000008000000ba `e xmlns:w=\"http://www.w3.org/2005/08/addressing\"><e:Header>`o<b x=\"1\">t<c>v</c><d/></b>`z~|020100000009000000ba `e xmlns:w=\"http://www.w3.org/2005/08/addressing\"><e:Header>`o<b x=\"1\">t<d/><c>u</c></b>`z~|02010000000a000000b6 `e xmlns:w=\"http://www.w3.org/2005/08/addressing\"><e:Header>`o<b x=\"1\">t<c>u</c></b>`z~|02010000000b000000b9 `e xmlns:w=\"http://www.w3.org/2005/08/addressing\"><e:Header>`o<b x=\"1\"><c>u</c><d/></b>`z~|02010000000c000000bb `e xmlns:w=\"http://www.w3.org/2005/08/addressing\"><e:Header>`o<b x=\"1\">t<c>u</c><d/></b> `z~|02010000000d000000ba `e xmlns:w=\"http://www.w3.org/2005/08/addressing\"><e:Header>`o<b x=\"1\">t<c>u</c><d/></b>`z~call 1 14 14 0 `C1`M0:1:14`A0`T000000000001`c~halted~",
+    ]]
 }
 
 pub(crate) fn rows_8() -> &'static [[&'static str; 4]] {
@@ -318,18 +316,8 @@ pub(crate) fn rows_10() -> &'static [[&'static str; 4]] {
             "receive r0 r1\nset r2 \"x\"\ncall r3 1 r2 0\nclock r4\nstop\n",
             "|01010000000100000001000001a7 `C0`M1:0:1`A1`Ttaken, never answered`c~call 1 1 1 0 `C1`M0:1:1`A0`Tx`c~clock 1~|010200000001000000010000019a `C0`M2:0:1`A2`Treadable`c~|0102000000020000000200000002 hi~|01010000000200000002000000b6 `e`w`o`z~|040000000101000000000000000003~halted~reply 2 1 `Furn:pws:group:2`J0:2:1`Lurn:pws:call:2:0:1`KReceiver`Eservice halted`f~reply 2 2 `F`a`J0:2:2`kReceiver`Eservice halted`f~reply 1 2 `F`a`J0:1:2`kReceiver`Eservice halted`f~|02010000000100000185 `C0`I1:0:1`Lurn:pws:call:0:1:1`Ba`r~|0102000000030000000300000197 `C0`M2:0:3`A2`Tlater`c~reply 2 3 `Furn:pws:group:2`J0:2:3`Lurn:pws:call:2:0:3`KReceiver`Eservice halted`f~|01010000000300000002000000d6 `e`w<w:MessageID>urn:m</w:MessageID>`o`z~reply 1 3 `F`a`J0:1:3`Lurn:m`KReceiver`Eservice halted`f~",
         ],
-        [
-            "halts-past-the-last-line",
-            "0 00",
-            "set r0 1\n",
-            "halted~",
-        ],
-        [
-            "halts-at-stop",
-            "0 00",
-            "stop\ncall r0 1 r0 0\n",
-            "halted~",
-        ],
+        ["halts-past-the-last-line", "0 00", "set r0 1\n", "halted~"],
+        ["halts-at-stop", "0 00", "stop\ncall r0 1 r0 0\n", "halted~"],
         [
             "halts-add-of-a-text",
             "0 000",
