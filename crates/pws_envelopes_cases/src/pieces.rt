@@ -17,7 +17,7 @@ const PIECES: [(&str, &str); 24] = [
     ),
     ("A", "</n1:MessageID><n1:ReplyTo><n1:Address>urn:pws:group:"),
     (
-        "T",
+        "t",
         "</n1:Address></n1:ReplyTo></n0:Header><n0:Body><n2:call><n2:text>",
     ),
     ("c", "</n2:text></n2:call></n0:Body></n0:Envelope>"),
