@@ -24,7 +24,7 @@ use std::alloc::Global;
 pub struct SoapEnvelopes;
 
 /// The envelope that a text is, if it is one.
-#[tactic(auto, using(crate::proofs::TextsRead::read_one, crate::proofs::TextsRead::read_none))]
+#[tactic(auto, using(crate::proofs::TextsRead::read_none))]
 fn envelope_at(alloc: Global, text: &[u8]) -> Result<Option<Envelope>, Memory>
     ensures { IfOk result (λ e. e ≡ envelope_at text.now) }
 {
