@@ -1,5 +1,5 @@
 -- The tree that is built of events is the one that they stand for.
-use Rattle.std.proofs.Common.{◌≡◌, ℕ, zero, suc, ◌+◌, ◌-◌, ◌<◌, ◌≤◌, Bool, true, false, not, ◌&&◌, nat_le, cond, List, [], ◌∷◌, ◌++◌, take, drop, length, refl, ap, sym, ◌∙◌, subst, rules, arith, Option, Some, None, inl, inr, IsTrue, slice_set, slice_index_or}
+use Rattle.std.proofs.Common.{◌≡◌, ℕ, suc, ◌+◌, ◌-◌, ◌<◌, ◌≤◌, Bool, true, false, not, ◌&&◌, nat_le, cond, List, [], ◌∷◌, ◌++◌, take, drop, length, refl, ap, sym, ◌∙◌, subst, rules, arith, Some, None, inl, inr, IsTrue, slice_set, slice_index_or}
 use Rattle.std.specs.Prelude.{◌⊎◌, ◌==◌}
 use Rattle.std.specs.Cmp.{IsTotalOrder}
 use Rattle.std.specs.Cmp.Rules.{comparing}
@@ -16,7 +16,7 @@ use Rattle.pws_tree.specs.Lawful.{is_lawful, is_lawful_tag, is_lawful_text, are_
 use Rattle.pws_tree.specs.Made.{IsMadeOf}
 use Rattle.pws_tree.specs.Names.{name_cmp, ascend, is_lawful_name}
 use Rattle.pws_tree.specs.Nodes.{node_then, nodes_of}
-use Rattle.pws_tree.specs.Trees.{Tree, Nodes, NoNode, TextThen, QualifiedThen, ElementThen, top, add_element, add_text, add_qualified}
+use Rattle.pws_tree.specs.Trees.{Tree, Nodes, NoNode, ElementThen, top, add_element, add_text, add_qualified}
 use Rattle.pws_tree.specs.declared.texts.Name.{Name}
 use Rattle.pws_tree.specs.declared.texts.Attr.{Attr}
 use Rattle.pws_tree.specs.declared.trees.Node.{Node}
