@@ -45,6 +45,7 @@ module _ {A B : Type 0} where
     where
       start : levels_at after other ≡ (if bytes_eq prefix other then stack.items else levels_at mid other)
       start = ap (λ o. option_map_or (λ v. v.items) o []) (put other) ∙ levels_if (bytes_eq prefix other) (Some stack) (value_at mid other)
+
       by : (t : Bool) → bytes_eq prefix other ≡ t → (if t then stack.items else levels_at mid other) ≡ (if t then levels_at before other ++ level ∷ [] else levels_at before other)
       by true e = items ∙ ap (λ p. levels_at before p ++ level ∷ []) (same_prefix prefix other e)
       by false e = taken other ∙ ap (λ t. if t then [] else levels_at before other) e
@@ -54,6 +55,7 @@ module _ {A B : Type 0} where
     where
       start : levels_at new other ≡ (if bytes_eq prefix other then w.items else levels_at old other)
       start = ap (λ o. option_map_or (λ v. v.items) o []) (update_at old new prefix (Some w) h other) ∙ levels_if (bytes_eq prefix other) (Some w) (value_at old other)
+
       by : (t : Bool) → bytes_eq prefix other ≡ t → (if t then w.items else levels_at old other) ≡ (if t then without_last (levels_at old other) else levels_at old other)
       by true e =
           items

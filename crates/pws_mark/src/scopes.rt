@@ -339,11 +339,7 @@ fn with_char(
 }
 
 /// An element with one more character of its content, at its place, where it is `Value`.
-fn kept_element(
-    element: OpenElement,
-    at: usize,
-    c: Option<char>,
-) -> Result<OpenElement, Memory>
+fn kept_element(element: OpenElement, at: usize, c: Option<char>) -> Result<OpenElement, Memory>
     ensures { IfOk result (λ x. x ≡ record { name = element.name; at = element.at; scope = element.scope; word = with_char element.word at c }) }
 {
     let OpenElement {
