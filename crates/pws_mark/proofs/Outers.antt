@@ -3,7 +3,7 @@ use Rattle.std.proofs.Common.{◌≡◌, ℕ, Bool, true, false, List, [], ◌�
 use Rattle.std.specs.Option.{is_some}
 use Rattle.pws_mark.specs.Meaning.{char_text}
 use Rattle.pws_mark.specs.Scopes.{word_at, kept}
-use Rattle.pws_mark.specs.States.{Open, Outer, bound_at, spoiled, is_empty, taken, taken_in, with_char, text_after}
+use Rattle.pws_mark.specs.States.{Open, Outer, bound_at, spoiled, is_empty, taken_in, with_char, text_after}
 use Rattle.pws_mark.specs.Values.{Marked}
 use Rattle.pws_mark.specs.declared.modes.Event.{Event}
 

@@ -1,5 +1,5 @@
 -- A character that shows nothing to be refused.
-use Rattle.std.proofs.Common.{◌≡◌, refl, Option, Some, None, []}
+use Rattle.std.proofs.Common.{refl, Option, Some, None, []}
 use Rattle.pws_mark.specs.Least.{lowered}
 use Rattle.pws_mark.specs.Scanning.{Notes}
 use Rattle.pws_mark.specs.declared.errors.MarkError.{MarkError}

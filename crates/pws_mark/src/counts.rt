@@ -1,6 +1,6 @@
 //! Small numbers that a reader keeps: places in a text, and marks side by side.
 
-ghost use Rattle.std.specs.Prelude.{◌≡◌, ◌+◌, ◌-◌, ◌≤◌, ◌==◌, ◌&&◌, length, encode_utf8, if◌then◌else◌};
+ghost use Rattle.std.specs.Prelude.{◌≡◌, ◌+◌, ◌-◌, ◌≤◌, ◌==◌, length, encode_utf8, if◌then◌else◌};
 ghost use Rattle.pws_mark.specs.Scan.{marks_after};
 
 use std::marker::Model;

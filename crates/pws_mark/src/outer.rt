@@ -1,18 +1,17 @@
 //! What is around a token: the open elements, and what was read.
 
-ghost use Rattle.std.specs.Prelude.{◌≡◌, ◌&&◌, nat_le, ◌<◌, length, ◌++◌, [], ◌∷◌, Some, None, OnOk, IfOk};
-ghost use Rattle.pws_mark.specs.Least.{lowered};
-ghost use Rattle.pws_mark.specs.Noted.{tag_finds, start_finds, hollow_finds, end_finds, word_finds};
-ghost use Rattle.pws_mark.specs.Meaning.{char_text, name_of};
-ghost use Rattle.pws_mark.specs.Scan.{region, outside};
-ghost use Rattle.pws_mark.specs.Scopes.{Begins, IsOpened, name_has, name_ends};
-ghost use Rattle.pws_mark.specs.Stopping.{name_char_at};
-ghost use Rattle.pws_mark.specs.Scanning.{ended_in};
+ghost use Rattle.std.specs.Prelude.{◌≡◌, ◌&&◌, nat_le, ◌<◌, length, ◌++◌, [], ◌∷◌, OnOk, IfOk};
 ghost use Rattle.std.specs.Bool.{OnTrue};
 ghost use Rattle.std.specs.String.{string_bytes};
-ghost use Rattle.pws_mark.specs.declared.modes.Event.TheVariants as event;
-ghost use Rattle.pws_mark.specs.Stopping.{name_char_at};
+ghost use Rattle.pws_mark.specs.Least.{lowered};
+ghost use Rattle.pws_mark.specs.Meaning.{char_text};
+ghost use Rattle.pws_mark.specs.Noted.{tag_finds, start_finds, hollow_finds, end_finds, word_finds};
+ghost use Rattle.pws_mark.specs.Scan.{region, outside};
+ghost use Rattle.pws_mark.specs.Scanning.{ended_in};
+ghost use Rattle.pws_mark.specs.Scopes.{Begins, IsOpened, name_has, name_ends};
 ghost use Rattle.pws_mark.specs.States.{bound_at, is_empty, spoiled, read_bound, flushed, started, hollowed, taken, qualified_event};
+ghost use Rattle.pws_mark.specs.Stopping.{name_char_at};
+ghost use Rattle.pws_mark.specs.declared.modes.Event.TheVariants as event;
 
 use crate::errors::MarkKind;
 use crate::least::Least;

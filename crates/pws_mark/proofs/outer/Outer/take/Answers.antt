@@ -1,4 +1,4 @@
-use Rattle.std.proofs.Common.{◌≡◌, ◌++◌, ◌∙◌, ap, sym, []}
+use Rattle.std.proofs.Common.{◌∙◌, ap, sym}
 use Rattle.std.specs.String.{string_bytes}
 use Rattle.pws_mark.specs.Meaning.{char_text}
 use Rattle.pws_mark.specs.States.{taken}
