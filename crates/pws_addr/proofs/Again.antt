@@ -1,24 +1,24 @@
 -- What is put into an envelope is what is read there.
-use Rattle.std.proofs.Common.{◌≡◌, eqb, ℕ, zero, suc, ◌+◌, ◌<◌, ◌≤◌, Bool, true, false, not, ◌&&◌, ◌||◌, cond, List, [], ◌∷◌, ◌++◌, map, length, filter, find, refl, ap, sym, ◌∙◌, subst, arith, length-append, append-nil, IsTrue}
-use Rattle.std.specs.Prelude.{codes, Option, Some, None, is_some, unwrap_or, option_and_then, Result, Ok, Err, if◌then◌else◌, nat_lt}
+use Rattle.std.proofs.Common.{◌≡◌, eqb, ℕ, Bool, true, false, not, ◌&&◌, ◌||◌, cond, List, [], ◌∷◌, ◌++◌, map, length, filter, find, refl, ap, sym, ◌∙◌, append-nil}
+use Rattle.std.specs.Prelude.{codes, Option, Some, None, is_some, unwrap_or, option_and_then, Ok, Err, if◌then◌else◌, nat_lt}
 use Rattle.std.specs.List.{list_any, list_all, filter_map, cons_option}
 use Rattle.std.specs.Option.{option_to_list, option_map}
 use Rattle.std.specs.Str.{bytes_eq}
-use Rattle.std.proofs.lemmas.Bool.{and_parts, and_from, or_parts, or_from, both_ways, not-true, or_left, or_right, false_from_ne_true, eqb-true}
+use Rattle.std.proofs.lemmas.Bool.{and_parts, and_from, or_from, both_ways, not-true, or_left, or_right, false_from_ne_true, eqb-true}
 use Rattle.std.proofs.lemmas.List.Folds.{list_all-append}
-use Rattle.std.proofs.lemmas.List.Elements.{filter-append, filter_map-append}
+use Rattle.std.proofs.lemmas.List.Elements.{filter-append}
 use Rattle.pws_tree.specs.Names.{envelope_space}
-use Rattle.pws_tree.specs.Trees.{Tree, Nodes, NoNode, TextThen}
+use Rattle.pws_tree.specs.Trees.{Tree, NoNode}
 use Rattle.pws_tree.specs.declared.texts.Attr.{Attr}
 use Rattle.pws_soap.specs.Blocks.{is_for_node, has_own_role, attribute_of}
 use Rattle.pws_soap.specs.Envelopes.{element_then}
 use Rattle.pws_soap.specs.Faults.{text_nodes}
 use Rattle.pws_soap.specs.Names.{addressing_space, addressing_words, is_addressing_header, role_word}
 use Rattle.pws_soap.specs.White.{trim}
-use Rattle.pws_addr.specs.Blocks.{address_word, relationship_word, holds_address, address_tree, content_of, block_of, plain_block, relationship, kind_attrs, relation_block, blocks_of}
-use Rattle.pws_addr.specs.Headers.{anonymous, reply_relation, header_local, header_name}
+use Rattle.pws_addr.specs.Blocks.{address_word, relationship_word, holds_address, address_tree, block_of, plain_block, relationship, kind_attrs, relation_block, blocks_of}
+use Rattle.pws_addr.specs.Headers.{anonymous, reply_relation, header_local}
 use Rattle.pws_addr.specs.Laws.{is_other, is_sayable, texts_of, PutIsRead}
-use Rattle.pws_addr.specs.Reading.{is_block, some_text, only_text, text_said, address_said, said, kind_said, relation_said, first_said, all_said, single_headers, all_headers, is_twice, is_invalid, valid, required, single, addressing_of}
+use Rattle.pws_addr.specs.Reading.{is_block, some_text, text_said, address_said, said, kind_said, relation_said, first_said, all_said, single_headers, all_headers, is_twice, is_invalid, valid, single, addressing_of}
 use Rattle.pws_addr.specs.declared.headers.Header.{Header}
 use Rattle.pws_addr.specs.declared.headers.Header.TheVariants as header
 use Rattle.pws_addr.specs.declared.headers.Relation.{Relation}
