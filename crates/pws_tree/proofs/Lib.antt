@@ -4,3 +4,4 @@ pub mod Levels
 pub mod Passing
 pub mod Same
 pub mod Joined
+pub mod XmlTexts

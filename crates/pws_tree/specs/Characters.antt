@@ -7,6 +7,10 @@ use Rattle.std.specs.Str.{is_utf8}
 abbrev pub is_in : List (ℕ × ℕ) → ℕ → Bool
 is_in ranges c = list_any (λ r. nat_le r.0 c && nat_le c r.1) ranges
 
+-- whether one of the ranges has a character from the first to the last, which isn't below it
+abbrev pub meets : List (ℕ × ℕ) → ℕ → ℕ → Bool
+meets ranges first last = list_any (λ r. nat_le r.0 last && nat_le first r.1) ranges
+
 -- production 2, Char
 unfoldable pub xml_ranges : List (ℕ × ℕ)
 xml_ranges = (0x9, 0xA) ∷ (0xD, 0xD) ∷ (0x20, 0xD7FF) ∷ (0xE000, 0xFFFD) ∷ (0x10000, 0x10FFFF) ∷ []

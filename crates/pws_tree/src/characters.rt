@@ -1,8 +1,8 @@
 //! Characters of XML and of its names.
 
-ghost use Rattle.std.specs.Prelude.{◌≡◌, chars};
+ghost use Rattle.std.specs.Prelude.{◌≡◌, ◌||◌, chars};
 ghost use Rattle.std.specs.List.{list_all};
-ghost use Rattle.pws_tree.specs.Characters.{is_in, is_xml_char, is_name_start, is_name_char, is_xml_text, is_local_name};
+ghost use Rattle.pws_tree.specs.Characters.{is_in, meets, xml_ranges, name_start_ranges, name_more_ranges, is_xml_char, is_name_start, is_name_char, is_xml_text, is_local_name};
 
 /// XML 1.0 fifth edition, production 2, Char.
 const XML_RANGES: [(u32, u32); 5] = [
@@ -70,6 +70,42 @@ pub fn is_name_char(c: char) -> bool
     ensures { result ≡ is_name_char c }
 {
     is_name_start(c) || is_in(&NAME_MORE_RANGES, c as u32)
+}
+
+/// Whether one of the ranges has a code point from the first to the last, which isn't below it.
+fn meets(ranges: &[(u32, u32)], first: u32, last: u32) -> bool
+    ensures { result ≡ meets ranges.now first last }
+{
+    ranges
+        .iter()
+        .any(|range| range.0 <= last && first <= range.1)
+}
+
+/// Whether XML has one of the characters from the first to the last, each given by its code point; the last isn't
+/// below the first.
+#[tactic(auto, unfolding(crate::specs::Characters::xml_ranges))]
+pub fn has_xml_char(first: u32, last: u32) -> bool
+    ensures { result ≡ meets xml_ranges first last }
+{
+    meets(&XML_RANGES, first, last)
+}
+
+/// Whether a name without a colon may begin with one of the characters from the first to the last, each given by its
+/// code point; the last isn't below the first.
+#[tactic(auto, unfolding(crate::specs::Characters::name_start_ranges))]
+pub fn has_name_start(first: u32, last: u32) -> bool
+    ensures { result ≡ meets name_start_ranges first last }
+{
+    meets(&NAME_START_RANGES, first, last)
+}
+
+/// Whether a name without a colon may go on with one of the characters from the first to the last, each given by its
+/// code point; the last isn't below the first.
+#[tactic(auto, unfolding(crate::specs::Characters::name_more_ranges))]
+pub fn has_name_char(first: u32, last: u32) -> bool
+    ensures { result ≡ (meets name_start_ranges first last || meets name_more_ranges first last) }
+{
+    has_name_start(first, last) || meets(&NAME_MORE_RANGES, first, last)
 }
 
 fn are_xml_chars(text: &str) -> bool

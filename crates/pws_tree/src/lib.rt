@@ -1,6 +1,6 @@
 //! Trees of elements: what the text of an envelope stands for.
 //!
-//! - `texts` has texts, names in namespaces, and attributes.
+//! - `texts` has texts, names in namespaces, and attributes; `xml_texts` has texts of XML characters alone.
 //! - `characters` tells which characters XML and its names have, and `lawful` which names, attributes and
 //!   children an element may have.
 //! - `trees` has elements. `Element::make` is the only way to one, so each element that there is keeps the rules;
@@ -19,3 +19,4 @@ pub mod lawful;
 mod tests;
 pub mod texts;
 pub mod trees;
+pub mod xml_texts;

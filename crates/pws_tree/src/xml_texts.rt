@@ -1,11 +1,11 @@
 //! Texts of XML characters.
 
-ghost use Rattle.std.specs.Prelude.{◌≡◌, ◌↔◌, [], IfOk, IsTrue};
+ghost use Rattle.std.specs.Prelude.{◌≡◌, ◌↔◌, ◌++◌, [], IfOk, OnOk, OnErr, IsTrue};
+ghost use Rattle.std.specs.String.{string_bytes};
 ghost use Rattle.pws_tree.specs.Characters.{is_xml_text};
 
 use pws_base::lists::ExactCopy;
 use pws_base::memory::Memory;
-use pws_tree::texts::Text;
 use std::alloc::{AllocError, Global};
 use std::fmt;
 use std::marker::Model;
@@ -13,22 +13,41 @@ use std::marker::Model;
 /// A text on the heap that has only characters of XML 1.0, which contracts see as the list of its bytes.
 #[derive(Drop)]
 pub struct XmlText {
-    inner: Text,
+    inner: String,
 }
 
 impl Model for XmlText {
     ghost use Rattle.std.specs.Prelude.{ℕ, List, IsTrue};
+    ghost use Rattle.std.specs.String.{string_bytes};
     ghost use Rattle.pws_tree.specs.Characters.{is_xml_text};
 
     ghost Value = { List ℕ };
 
-    ghost view = { λ t. t.inner };
+    ghost view = { λ t. string_bytes t.inner };
 
-    ghost invariant = { λ t. IsTrue (is_xml_text t.inner) };
+    ghost invariant = { λ t. IsTrue (is_xml_text (string_bytes t.inner)) };
 }
 
 impl XmlText {
-    /// A copy of this text, whose characters XML has; `pws_tree::characters::is_xml_text` is the test.
+    /// The empty text.
+    #[tactic(auto, using(crate::proofs::XmlTexts::nothing_xml))]
+    pub fn new(alloc: Global) -> XmlText
+        ensures { result ≡ [] }
+    {
+        XmlText {
+            inner: String::new(alloc),
+        }
+    }
+
+    /// The text of a string, which isn't copied and whose characters XML has; `characters::is_xml_text` is the test.
+    pub fn from_string(inner: String) -> XmlText
+        requires { IsTrue (is_xml_text (string_bytes inner)) }
+        ensures { result ≡ string_bytes inner }
+    {
+        XmlText { inner }
+    }
+
+    /// A copy of this text, whose characters XML has; `characters::is_xml_text` is the test.
     ///
     /// # Errors
     ///
@@ -38,8 +57,23 @@ impl XmlText {
         ensures { IfOk result (λ t. t ≡ text.now) }
     {
         Ok(XmlText {
-            inner: Text::from_str(alloc, text)?,
+            inner: String::from_str(alloc, text)?,
         })
+    }
+
+    /// Adds a text, whose characters XML has, behind this one.
+    ///
+    /// # Errors
+    ///
+    /// `Memory` only; nothing is added then.
+    #[tactic(auto, using(crate::proofs::XmlTexts::appended_xml))]
+    pub fn push_str(&mut self, text: &str) -> Result<(), Memory>
+        requires { IsTrue (is_xml_text text.now) }
+        ensures ok { OnOk result (self.new ≡ self.old ++ text.now) }
+        ensures err { OnErr result (self.new ≡ self.old) }
+    {
+        self.inner.push_str(text)?;
+        Ok(())
     }
 
     /// The text.
@@ -61,7 +95,7 @@ impl XmlText {
 impl ExactCopy for XmlText {
     fn copy(&self, alloc: Global) -> Result<XmlText, Memory> {
         Ok(XmlText {
-            inner: self.inner.copy(alloc)?,
+            inner: String::from_str(alloc, self.inner.as_str())?,
         })
     }
 }
