@@ -10,10 +10,10 @@ use Rattle.std.proofs.lemmas.List.Elements.{filter-append}
 use Rattle.pws_tree.specs.Names.{envelope_space}
 use Rattle.pws_tree.specs.Trees.{Tree, NoNode}
 use Rattle.pws_tree.specs.declared.texts.Attr.{Attr}
-use Rattle.pws_soap.specs.Blocks.{is_for_node, has_own_role, attribute_of}
+use Rattle.pws_soap.specs.Blocks.{is_for_node, is_addressing_header, has_own_role, attribute_of}
 use Rattle.pws_soap.specs.Envelopes.{element_then}
 use Rattle.pws_soap.specs.Faults.{text_nodes}
-use Rattle.pws_soap.specs.Names.{addressing_space, addressing_words, is_addressing_header, role_word}
+use Rattle.pws_soap.specs.Names.{addressing_space, addressing_words, role_word}
 use Rattle.pws_soap.specs.White.{trim}
 use Rattle.pws_addr.specs.Blocks.{address_word, relationship_word, holds_address, address_tree, block_of, plain_block, relationship, kind_attrs, relation_block, blocks_of}
 use Rattle.pws_addr.specs.Headers.{anonymous, reply_relation, header_local}

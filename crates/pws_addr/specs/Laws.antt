@@ -4,8 +4,7 @@ use Rattle.std.specs.List.{list_all}
 use Rattle.std.specs.Option.{option_to_list}
 use Rattle.std.specs.Str.{bytes_eq}
 use Rattle.pws_tree.specs.Trees.{Tree}
-use Rattle.pws_soap.specs.Blocks.{is_for_node}
-use Rattle.pws_soap.specs.Names.{is_addressing_header}
+use Rattle.pws_soap.specs.Blocks.{is_for_node, is_addressing_header}
 use Rattle.pws_soap.specs.White.{trim}
 use Rattle.pws_addr.specs.Blocks.{blocks_of}
 use Rattle.pws_addr.specs.Envelopes.{fault_text, reply_text}
