@@ -38,7 +38,7 @@ find_step : (b : Bool) (x : Tree) (f : Option Tree) (fs : List Tree) → f ≡ h
 find_step true x f fs e = refl
 find_step false x f fs e = e
 
-find_is : (p : Tree → Bool) (xs : List Tree) → find p xs ≡ head_of (filter p xs)
+pub find_is : (p : Tree → Bool) (xs : List Tree) → find p xs ≡ head_of (filter p xs)
 find_is p [] = refl
 find_is p (x ∷ xs) = find_step (p x) x (find p xs) (filter p xs) (find_is p xs)
 
@@ -46,7 +46,7 @@ any_step : (b a : Bool) (x : Tree) (fs : List Tree) → a ≡ is_any fs → (b |
 any_step true a x fs e = refl
 any_step false a x fs e = e
 
-any_is : (p : Tree → Bool) (xs : List Tree) → list_any p xs ≡ is_any (filter p xs)
+pub any_is : (p : Tree → Bool) (xs : List Tree) → list_any p xs ≡ is_any (filter p xs)
 any_is p [] = refl
 any_is p (x ∷ xs) = any_step (p x) (list_any p xs) x (filter p xs) (any_is p xs)
 
@@ -54,7 +54,7 @@ and_step : (q : Tree → Bool) (b a : Bool) (x : Tree) (fs : List Tree) → a �
 and_step q true a x fs e = ap (λ z. q x || z) e
 and_step q false a x fs e = e
 
-and_is : (p q : Tree → Bool) (xs : List Tree) → list_any (λ x. p x && q x) xs ≡ list_any q (filter p xs)
+pub and_is : (p q : Tree → Bool) (xs : List Tree) → list_any (λ x. p x && q x) xs ≡ list_any q (filter p xs)
 and_is p q [] = refl
 and_is p q (x ∷ xs) = and_step q (p x) (list_any (λ y. p y && q y) xs) x (filter p xs) (and_is p q xs)
 
@@ -214,7 +214,7 @@ bytes_same (x ∷ xs) (y ∷ ys) e =
     let parts = and_parts (eqb x y) (bytes_eq xs ys) e in
     ap (λ z. z ∷ xs) (eqb-true x y parts.0) ∙ ap (λ z. y ∷ z) (bytes_same xs ys parts.1)
 
-parts_same : (a b : Addressing) → a.to ≡ b.to → a.action ≡ b.action → a.message_id ≡ b.message_id → a.relates_to ≡ b.relates_to → a.reply_to ≡ b.reply_to → a.from ≡ b.from → a.fault_to ≡ b.fault_to → a ≡ b
+pub parts_same : (a b : Addressing) → a.to ≡ b.to → a.action ≡ b.action → a.message_id ≡ b.message_id → a.relates_to ≡ b.relates_to → a.reply_to ≡ b.reply_to → a.from ≡ b.from → a.fault_to ≡ b.fault_to → a ≡ b
 parts_same a b e1 e2 e3 e4 e5 e6 e7 =
     ap (λ x. record a { to = x }) e1
     ∙ (ap (λ x. record a { to = b.to; action = x }) e2

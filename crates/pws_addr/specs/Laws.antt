@@ -1,5 +1,5 @@
 -- What is put into an envelope is what is read there, and what drivers make fits into a body.
-use Rattle.std.specs.Prelude.{◌≡◌, ℕ, ◌^◌, ◌<◌, ◌≤◌, Bool, not, ◌&&◌, List, [], ◌∷◌, ◌++◌, map, length, Option, Ok, IsTrue}
+use Rattle.std.specs.Prelude.{◌≡◌, ℕ, ◌^◌, ◌<◌, ◌≤◌, Bool, not, ◌&&◌, List, [], ◌∷◌, ◌++◌, map, filter, length, Option, Ok, IsTrue}
 use Rattle.std.specs.List.{list_all}
 use Rattle.std.specs.Option.{option_to_list}
 use Rattle.std.specs.Str.{bytes_eq}
@@ -34,6 +34,10 @@ texts_of a =
 -- behind header blocks that are other ones, the blocks of an addressing say it
 abbrev pub PutIsRead : Type 0
 PutIsRead = (headers : List Tree) (a : Addressing) → IsTrue (list_all is_other headers) → IsTrue (list_all is_sayable (texts_of a)) → addressing_of (headers ++ blocks_of a) ≡ Ok a
+
+-- the header blocks for this node alone count
+abbrev pub OursCount : Type 0
+OursCount = (headers : List Tree) → addressing_of (filter is_for_node headers) ≡ addressing_of headers
 
 -- the numbers of groups are below 256, and those of calls below 2 ^ 32
 abbrev pub FaultsFit : Type 0
