@@ -12,7 +12,7 @@ use Rattle.pws_soap.specs.White.{trim}
 use Rattle.pws_addr.specs.Blocks.{holds_address, blocks_of}
 use Rattle.pws_addr.specs.Headers.{anonymous, header_name}
 use Rattle.pws_addr.specs.Laws.{is_sayable, texts_of, ReadIsReadAgain}
-use Rattle.pws_addr.specs.Reading.{is_block, is_address, some_text, only_text, only_of, text_said, address_said, said, kind_said, relation_said, first_said, all_said, single_headers, all_headers, is_twice, is_invalid, valid, required, single, addressing_of}
+use Rattle.pws_addr.specs.Reading.{is_block, is_address, some_text, only_text, only_of, text_said, address_said, said, kind_said, relation_said, first_said, all_said, single_headers, all_headers, is_twice, is_invalid, valid, single, addressing_of}
 use Rattle.pws_soap.specs.Envelopes.{elements}
 use Rattle.pws_addr.specs.declared.headers.Header.{Header}
 use Rattle.pws_addr.specs.declared.headers.Header.TheVariants as header
