@@ -24,7 +24,6 @@ both_true : (a b : Bool) → a ≡ true → b ≡ true → (a && b) ≡ true
 both_true true b h g = g
 both_true false b h g = h
 
-
 xml_from : (t : List ℕ) → IsUtf8 t → list_all is_xml_char (chars t) ≡ true → is_xml_text t ≡ true
 unfolding is_xml_text
 xml_from t u h = both_true (is_utf8 t) (list_all is_xml_char (chars t)) (is_utf8-from_IsUtf8 t u) h
