@@ -51,6 +51,24 @@ fn a_refused_script(rt: HostRuntime) -> Result<(), Fail> {
 }
 
 #[test]
+fn a_good_element(rt: HostRuntime) -> Result<(), Fail> {
+    let text = "<?xml version=\"1.0\"?><p:a xmlns:p='urn:x' c=\"1\"/>\n";
+    let (status, written) = run(rt.alloc(), &["envelope"], text.as_bytes())?;
+    let wanted = "<n0:a xmlns:n0=\"urn:x\" c=\"1\"></n0:a>\n";
+    assert_eq!(rt; written.as_slice(), wanted.as_bytes());
+    assert_eq!(rt; status, LookStatus::Good);
+    Ok(())
+}
+
+#[test]
+fn a_refused_element(rt: HostRuntime) -> Result<(), Fail> {
+    let (status, written) = run(rt.alloc(), &["envelope"], b"<a><b></a>")?;
+    assert_eq!(rt; written.as_slice(), b"Syntax at 8\n");
+    assert_eq!(rt; status, LookStatus::Refused);
+    Ok(())
+}
+
+#[test]
 fn other_words(rt: HostRuntime) -> Result<(), Fail> {
     let alloc = rt.alloc();
     for words in [
@@ -63,7 +81,7 @@ fn other_words(rt: HostRuntime) -> Result<(), Fail> {
     ] {
         let (status, written) = run(alloc, words, b"")?;
         assert_eq!(rt; status, LookStatus::Usage);
-        assert_eq!(rt; written.as_slice(), b"usage: pws-look event, packet or script, and --lines\n");
+        assert_eq!(rt; written.as_slice(), b"usage: pws-look event, packet, envelope, soap or script, and --lines\n");
     }
     Ok(())
 }
