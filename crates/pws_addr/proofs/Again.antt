@@ -1,24 +1,24 @@
 -- What is put into an envelope is what is read there.
-use Rattle.std.proofs.Common.{◌≡◌, eqb, ℕ, zero, suc, ◌+◌, ◌<◌, ◌≤◌, Bool, true, false, not, ◌&&◌, ◌||◌, cond, List, [], ◌∷◌, ◌++◌, map, length, filter, find, refl, ap, sym, ◌∙◌, subst, arith, length-append, append-nil, IsTrue}
-use Rattle.std.specs.Prelude.{codes, Option, Some, None, is_some, unwrap_or, option_and_then, Result, Ok, Err, if◌then◌else◌, nat_lt}
+use Rattle.std.proofs.Common.{◌≡◌, eqb, ℕ, Bool, true, false, not, ◌&&◌, ◌||◌, cond, List, [], ◌∷◌, ◌++◌, map, length, filter, find, refl, ap, sym, ◌∙◌, append-nil}
+use Rattle.std.specs.Prelude.{codes, Option, Some, None, is_some, unwrap_or, option_and_then, Ok, Err, if◌then◌else◌, nat_lt}
 use Rattle.std.specs.List.{list_any, list_all, filter_map, cons_option}
 use Rattle.std.specs.Option.{option_to_list, option_map}
 use Rattle.std.specs.Str.{bytes_eq}
-use Rattle.std.proofs.lemmas.Bool.{and_parts, and_from, or_parts, or_from, both_ways, not-true, or_left, or_right, false_from_ne_true, eqb-true}
+use Rattle.std.proofs.lemmas.Bool.{and_parts, and_from, or_from, both_ways, not-true, or_left, or_right, false_from_ne_true, eqb-true}
 use Rattle.std.proofs.lemmas.List.Folds.{list_all-append}
-use Rattle.std.proofs.lemmas.List.Elements.{filter-append, filter_map-append}
+use Rattle.std.proofs.lemmas.List.Elements.{filter-append}
 use Rattle.pws_tree.specs.Names.{envelope_space}
-use Rattle.pws_tree.specs.Trees.{Tree, Nodes, NoNode, TextThen}
+use Rattle.pws_tree.specs.Trees.{Tree, NoNode}
 use Rattle.pws_tree.specs.declared.texts.Attr.{Attr}
-use Rattle.pws_soap.specs.Blocks.{is_for_node, has_own_role, attribute_of}
+use Rattle.pws_soap.specs.Blocks.{is_for_node, is_addressing_header, has_own_role, attribute_of}
 use Rattle.pws_soap.specs.Envelopes.{element_then}
 use Rattle.pws_soap.specs.Faults.{text_nodes}
-use Rattle.pws_soap.specs.Names.{addressing_space, addressing_words, is_addressing_header, role_word}
+use Rattle.pws_soap.specs.Names.{addressing_space, addressing_words, role_word}
 use Rattle.pws_soap.specs.White.{trim}
-use Rattle.pws_addr.specs.Blocks.{address_word, relationship_word, holds_address, address_tree, content_of, block_of, plain_block, relationship, kind_attrs, relation_block, blocks_of}
-use Rattle.pws_addr.specs.Headers.{anonymous, reply_relation, header_local, header_name}
+use Rattle.pws_addr.specs.Blocks.{address_word, relationship_word, holds_address, address_tree, block_of, plain_block, relationship, kind_attrs, relation_block, blocks_of}
+use Rattle.pws_addr.specs.Headers.{anonymous, reply_relation, header_local}
 use Rattle.pws_addr.specs.Laws.{is_other, is_sayable, texts_of, PutIsRead}
-use Rattle.pws_addr.specs.Reading.{is_block, some_text, only_text, text_said, address_said, said, kind_said, relation_said, first_said, all_said, single_headers, all_headers, is_twice, is_invalid, valid, required, single, addressing_of}
+use Rattle.pws_addr.specs.Reading.{is_block, some_text, text_said, address_said, said, kind_said, relation_said, first_said, all_said, single_headers, all_headers, is_twice, is_invalid, valid, single, addressing_of}
 use Rattle.pws_addr.specs.declared.headers.Header.{Header}
 use Rattle.pws_addr.specs.declared.headers.Header.TheVariants as header
 use Rattle.pws_addr.specs.declared.headers.Relation.{Relation}
@@ -38,7 +38,7 @@ find_step : (b : Bool) (x : Tree) (f : Option Tree) (fs : List Tree) → f ≡ h
 find_step true x f fs e = refl
 find_step false x f fs e = e
 
-find_is : (p : Tree → Bool) (xs : List Tree) → find p xs ≡ head_of (filter p xs)
+pub find_is : (p : Tree → Bool) (xs : List Tree) → find p xs ≡ head_of (filter p xs)
 find_is p [] = refl
 find_is p (x ∷ xs) = find_step (p x) x (find p xs) (filter p xs) (find_is p xs)
 
@@ -46,7 +46,7 @@ any_step : (b a : Bool) (x : Tree) (fs : List Tree) → a ≡ is_any fs → (b |
 any_step true a x fs e = refl
 any_step false a x fs e = e
 
-any_is : (p : Tree → Bool) (xs : List Tree) → list_any p xs ≡ is_any (filter p xs)
+pub any_is : (p : Tree → Bool) (xs : List Tree) → list_any p xs ≡ is_any (filter p xs)
 any_is p [] = refl
 any_is p (x ∷ xs) = any_step (p x) (list_any p xs) x (filter p xs) (any_is p xs)
 
@@ -54,7 +54,7 @@ and_step : (q : Tree → Bool) (b a : Bool) (x : Tree) (fs : List Tree) → a �
 and_step q true a x fs e = ap (λ z. q x || z) e
 and_step q false a x fs e = e
 
-and_is : (p q : Tree → Bool) (xs : List Tree) → list_any (λ x. p x && q x) xs ≡ list_any q (filter p xs)
+pub and_is : (p q : Tree → Bool) (xs : List Tree) → list_any (λ x. p x && q x) xs ≡ list_any q (filter p xs)
 and_is p q [] = refl
 and_is p q (x ∷ xs) = and_step q (p x) (list_any (λ y. p y && q y) xs) x (filter p xs) (and_is p q xs)
 
@@ -214,7 +214,7 @@ bytes_same (x ∷ xs) (y ∷ ys) e =
     let parts = and_parts (eqb x y) (bytes_eq xs ys) e in
     ap (λ z. z ∷ xs) (eqb-true x y parts.0) ∙ ap (λ z. y ∷ z) (bytes_same xs ys parts.1)
 
-parts_same : (a b : Addressing) → a.to ≡ b.to → a.action ≡ b.action → a.message_id ≡ b.message_id → a.relates_to ≡ b.relates_to → a.reply_to ≡ b.reply_to → a.from ≡ b.from → a.fault_to ≡ b.fault_to → a ≡ b
+pub parts_same : (a b : Addressing) → a.to ≡ b.to → a.action ≡ b.action → a.message_id ≡ b.message_id → a.relates_to ≡ b.relates_to → a.reply_to ≡ b.reply_to → a.from ≡ b.from → a.fault_to ≡ b.fault_to → a ≡ b
 parts_same a b e1 e2 e3 e4 e5 e6 e7 =
     ap (λ x. record a { to = x }) e1
     ∙ (ap (λ x. record a { to = b.to; action = x }) e2

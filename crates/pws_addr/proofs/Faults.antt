@@ -1,5 +1,5 @@
 -- The fault for a cause is lawful.
-use Rattle.std.proofs.Common.{◌≡◌, ℕ, Bool, true, ◌&&◌, List, refl, sym, subst, IsTrue}
+use Rattle.std.proofs.Common.{◌≡◌, ℕ, ◌&&◌, List, refl, sym, subst, IsTrue}
 use Rattle.std.specs.Prelude.{Option}
 use Rattle.std.specs.Str.{is_utf8, chars}
 use lib.Utf8.{encode}

@@ -1,14 +1,14 @@
 -- Faults fit into a body.
-use Rattle.std.proofs.Common.{◌≡◌, ℕ, zero, suc, ◌+◌, ◌*◌, ◌<◌, ◌≤◌, ◌^◌, Bool, true, false, cond, List, [], ◌∷◌, ◌++◌, length, refl, ap, sym, ◌∙◌, subst, arith, length-append, nat_le}
-use Rattle.std.specs.Prelude.{if◌then◌else◌, Option, Some, None, position, unwrap_or}
+use Rattle.std.proofs.Common.{◌≡◌, ℕ, ◌+◌, ◌*◌, ◌<◌, ◌≤◌, ◌^◌, Bool, true, false, List, [], ◌∷◌, ◌++◌, length, refl, ap, arith, length-append}
+use Rattle.std.specs.Prelude.{if◌then◌else◌, Some, None, position, unwrap_or}
 use Rattle.std.specs.List.{flat_map}
 use Rattle.std.specs.Fmt.{decimal}
 use Rattle.std.specs.Str.{bytes_eq}
 use Rattle.std.proofs.lemmas.Bool.{leb-true}
 use Rattle.std.proofs.lemmas.Fmt.{length-decimal-le}
 use Rattle.pws_tree.specs.Names.{envelope_space, value_word}
-use Rattle.pws_tree.specs.Trees.{Tree, Nodes, NoNode}
-use Rattle.pws_mark.specs.Canonical.{xml_space, xml_word, prefix_text, declaration_word, declaration_text, value_byte, value_text, declarations_text, spaces_of, canonical}
+use Rattle.pws_tree.specs.Trees.{Tree, NoNode}
+use Rattle.pws_mark.specs.Canonical.{xml_space, xml_word, declaration_word, declaration_text, value_byte, value_text, declarations_text, spaces_of, canonical}
 use Rattle.pws_soap.specs.Envelopes.{element_then, root_of}
 use Rattle.pws_soap.specs.Faults.{fault_tree, word_of}
 use Rattle.pws_soap.specs.Names.{envelope_word, header_word, body_word, fault_word, code_word, subcode_word, reason_word, text_word, lang_word, english, addressing_space}
@@ -16,7 +16,7 @@ use Rattle.pws_addr.specs.Blocks.{blocks_of}
 use Rattle.pws_addr.specs.Causes.{fault_of, header_required, invalid_header}
 use Rattle.pws_addr.specs.Envelopes.{fault_action, fits, fault_envelope_text, fault_text, reply_envelope_text, reply_text}
 use Rattle.pws_addr.specs.Headers.{anonymous, header_local}
-use Rattle.pws_addr.specs.Identifiers.{reply_word, three_numbers, reply_id}
+use Rattle.pws_addr.specs.Identifiers.{reply_word, three_numbers}
 use Rattle.pws_addr.specs.Laws.{FaultsFit, RepliesFit}
 use Rattle.pws_addr.proofs.Weights.{HasShortPrefixes, value_short, tree_weight, canonical_short}
 use Rattle.pws_addr.specs.declared.causes.Cause.{Cause}

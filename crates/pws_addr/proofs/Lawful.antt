@@ -1,5 +1,5 @@
 -- The header blocks of an addressing are lawful.
-use Rattle.std.proofs.Common.{◌≡◌, ℕ, ◌+◌, ◌≤◌, max, get_or, map, ◌++◌, Bool, true, false, not, ◌&&◌, nat_le, List, [], ◌∷◌, refl, ap, sym, ◌∙◌, arith, IsTrue}
+use Rattle.std.proofs.Common.{◌≡◌, ℕ, ◌+◌, ◌≤◌, get_or, map, ◌++◌, Bool, true, false, not, ◌&&◌, nat_le, List, [], ◌∷◌, refl, ap, ◌∙◌, arith, IsTrue}
 use Rattle.std.specs.Prelude.{if◌then◌else◌}
 use Rattle.std.specs.List.{All, list_all}
 use Rattle.std.specs.Str.{is_utf8, chars}
@@ -12,7 +12,7 @@ use Rattle.std.proofs.lemmas.List.Elements.{All-nil, All-cons, All-append, All-m
 use Rattle.pws_tree.specs.Characters.{is_xml_text, is_local_name, xml_ranges, name_start_ranges, name_more_ranges}
 use Rattle.pws_tree.specs.Lawful.{is_lawful, is_lawful_tag, are_lawful, fits_name, levels, has_qualified, is_one_qualified, tree_depth}
 use Rattle.pws_tree.specs.Names.{is_lawful_name, is_declaration, is_lawful_attr, ascend, is_value, envelope_space, xmlns_space, xmlns_word, value_word}
-use Rattle.pws_tree.specs.Trees.{Tree, Nodes, NoNode, TextThen}
+use Rattle.pws_tree.specs.Trees.{Tree, Nodes, NoNode}
 use Rattle.pws_tree.specs.declared.texts.Name.{Name}
 use Rattle.pws_tree.specs.declared.texts.Attr.{Attr}
 use Rattle.pws_soap.specs.Envelopes.{element_then}
@@ -23,7 +23,6 @@ use Rattle.pws_addr.specs.Blocks.{address_word, relationship_word, holds_address
 use Rattle.pws_addr.specs.Headers.{addressing_name, header_local, header_name}
 use Rattle.pws_addr.specs.declared.headers.Header.{Header}
 use Rattle.pws_addr.specs.declared.headers.Header.TheVariants as header
-use Rattle.pws_addr.specs.declared.headers.Relation.{Relation}
 use Rattle.pws_addr.specs.declared.headers.Addressing.{Addressing}
 
 -- a lawful name that isn't that of Value

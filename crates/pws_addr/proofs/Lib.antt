@@ -1,4 +1,5 @@
 pub mod Again
+pub mod Counting
 pub mod Faults
 pub mod Fitting
 pub mod Lawful

@@ -2,10 +2,10 @@
 use Rattle.std.proofs.Common.{◌≡◌, ℕ, Bool, true, false, ◌&&◌, not, List, [], refl, arith, IsTrue}
 use Rattle.std.specs.Str.{is_utf8, chars, bytes_eq}
 use lib.Utf8.{encode}
-use Rattle.std.proofs.lemmas.Bool.{and_from, le-leb}
+use Rattle.std.proofs.lemmas.Bool.{le-leb}
 use Rattle.pws_tree.specs.Characters.{is_xml_text, is_local_name, xml_ranges, name_start_ranges, name_more_ranges}
 use Rattle.pws_tree.specs.Lawful.{is_lawful, tree_depth}
-use Rattle.pws_tree.specs.Names.{is_lawful_name, is_value, envelope_space, xmlns_space, value_word}
+use Rattle.pws_tree.specs.Names.{envelope_space, xmlns_space, value_word}
 use Rattle.pws_tree.specs.Trees.{NoNode}
 use Rattle.pws_soap.specs.Envelopes.{element_then}
 use Rattle.pws_soap.specs.Faults.{text_nodes}

@@ -1,13 +1,13 @@
 -- Texts of printable ASCII have only XML characters, and the names of groups, calls and replies are such texts.
-use Rattle.std.proofs.Common.{◌≡◌, ℕ, zero, suc, ◌+◌, ◌<◌, ◌≤◌, ◌^◌, ◌%◌, Bool, true, false, ◌&&◌, ◌||◌, nat_le, List, [], ◌∷◌, ◌++◌, refl, ap, sym, ◌∙◌, arith, IsTrue, get_or}
-use Rattle.std.specs.List.{list_any, list_all}
+use Rattle.std.proofs.Common.{◌≡◌, ℕ, zero, suc, ◌+◌, ◌<◌, ◌≤◌, ◌^◌, ◌%◌, Bool, true, ◌&&◌, nat_le, List, [], ◌∷◌, ◌++◌, refl, ap, ◌∙◌, arith, IsTrue}
+use Rattle.std.specs.List.{list_all}
 use Rattle.std.specs.Fmt.{decimal}
-use Rattle.std.specs.Str.{IsAscii, IsUtf8, is_utf8, chars}
+use Rattle.std.specs.Str.{IsAscii, is_utf8, chars}
 use Rattle.std.proofs.lemmas.Bool.{and_parts, and_from, or_left, or_right, leb-true, le-leb}
 use Rattle.std.proofs.lemmas.List.Folds.{list_all-append}
 use Rattle.std.proofs.lemmas.Fmt.{decimal_by_steps}
 use Rattle.std.proofs.lemmas.Str.{chars-IsAscii, IsUtf8-from_ascii, is_utf8-from_IsUtf8}
-use Rattle.pws_tree.specs.Characters.{is_in, xml_ranges, is_xml_char, is_xml_text}
+use Rattle.pws_tree.specs.Characters.{xml_ranges, is_xml_char, is_xml_text}
 use Rattle.pws_addr.specs.Identifiers.{group_word, call_word, reply_word, group_address, three_numbers, call_id, reply_id}
 
 abbrev pub is_printable : ℕ → Bool

@@ -1,10 +1,9 @@
 -- What the content of headers says.
-use Rattle.std.proofs.Common.{inl, inr, ◌≡◌, ℕ, zero, suc, ◌+◌, ◌-◌, ◌<◌, Bool, true, false, not, ◌&&◌, List, [], ◌∷◌, ◌++◌, length, take, drop, get_or, filter, find, refl, ap, sym, ◌∙◌, subst, arith, add-one, one-add, drop-cons, cond, IsTrue}
-use Rattle.std.specs.Prelude.{◌==◌, ◌||◌, Option, Some, None, if◌then◌else◌, nat_lt, nat_le}
-use Rattle.std.specs.Option.{option_to_list}
+use Rattle.std.proofs.Common.{inl, inr, ◌≡◌, ℕ, zero, suc, ◌+◌, ◌-◌, ◌<◌, Bool, true, false, not, ◌&&◌, List, [], ◌∷◌, ◌++◌, length, take, drop, get_or, filter, find, refl, ap, sym, ◌∙◌, subst, arith, one-add, cond, IsTrue}
+use Rattle.std.specs.Prelude.{◌==◌, ◌||◌, Option, Some, None, if◌then◌else◌, nat_le}
 use Rattle.std.specs.List.{list_all, prefix_len, suffix_len}
 use Rattle.std.specs.Str.{IsAscii, IsUtf8, is_utf8, chars, bytes_eq}
-use Rattle.std.proofs.lemmas.Bool.{and_parts, and_from, leb-true, cases_lt, both_ways, or_from, ne_eqb}
+use Rattle.std.proofs.lemmas.Bool.{and_parts, and_from, cases_lt, both_ways, or_from, ne_eqb}
 use Rattle.std.proofs.lemmas.List.{take-append-drop}
 use Rattle.std.proofs.lemmas.List.Folds.{list_all-append}
 use Rattle.std.proofs.lemmas.List.Elements.{filter-append}
@@ -19,8 +18,8 @@ use Rattle.pws_tree.specs.declared.trees.Node.{Node}
 use Rattle.pws_tree.specs.declared.trees.Node.TheVariants as node
 use Rattle.pws_mark.specs.Tokens.{is_white}
 use Rattle.pws_soap.specs.Envelopes.{elements}
-use Rattle.pws_soap.specs.White.{trim_start, trim_end, trim}
-use Rattle.pws_addr.specs.Reading.{some_text, only_text, is_address, only_of, is_relationship}
+use Rattle.pws_soap.specs.White.{trim}
+use Rattle.pws_addr.specs.Reading.{only_text, is_address, is_relationship}
 
 -- one child alone is the only one
 pub many_no_text : (ns : List Node) → (length ns ≡ 1 → ⊥) → None ≡ only_text (nodes_of ns)

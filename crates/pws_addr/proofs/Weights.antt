@@ -1,14 +1,12 @@
 -- How long the canonical text of a tree is at most.
-use Rattle.std.proofs.Common.{◌≡◌, ℕ, zero, suc, ◌+◌, ◌*◌, ◌<◌, ◌≤◌, ◌^◌, Bool, true, false, cond, List, [], ◌∷◌, ◌++◌, length, refl, ap, sym, ◌∙◌, subst, arith, length-append}
-use Rattle.std.specs.Prelude.{◌==◌, if◌then◌else◌, Option, Some, None, position, unwrap_or}
+use Rattle.std.proofs.Common.{◌≡◌, ℕ, ◌+◌, ◌*◌, ◌≤◌, Bool, true, false, List, [], ◌∷◌, ◌++◌, length, sym, subst, arith, length-append}
+use Rattle.std.specs.Prelude.{◌==◌, if◌then◌else◌}
 use Rattle.std.specs.List.{flat_map}
-use Rattle.std.specs.Fmt.{decimal}
 use Rattle.std.specs.Str.{bytes_eq}
-use Rattle.std.proofs.lemmas.Fmt.{length-decimal-le}
 use Rattle.pws_tree.specs.Trees.{Tree, Nodes, NoNode, TextThen, QualifiedThen, ElementThen}
 use Rattle.pws_tree.specs.declared.texts.Name.{Name}
 use Rattle.pws_tree.specs.declared.texts.Attr.{Attr}
-use Rattle.pws_mark.specs.Canonical.{xml_space, xml_word, text_byte, value_byte, value_text, prefix_text, name_text, attr_text, start_text, end_text, nodes_text, declarations_text, spaces_of, canonical}
+use Rattle.pws_mark.specs.Canonical.{text_byte, value_byte, value_text, prefix_text, name_text, attr_text, start_text, end_text, nodes_text, declarations_text, spaces_of, canonical}
 
 -- a name has at most five bytes more than its local part, a byte of a text is written in at most five, and one of a value
 -- in at most six

@@ -19,7 +19,7 @@ address_word = codes "Address"
 unfoldable pub relationship_word : List ℕ
 relationship_word = codes "RelationshipType"
 
--- Core, section 2.1: these hold an endpoint reference, whose address is the text of a child
+-- Core, section 2.2: these hold an endpoint reference, whose address is the text of a child
 abbrev pub holds_address : Header → Bool
 holds_address header.To = false
 holds_address header.From = true

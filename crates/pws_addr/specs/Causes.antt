@@ -1,5 +1,5 @@
--- Why a driver answers with a fault, and which (WS-Addressing 1.0 SOAP Binding, section 6.4; the reasons are this project's
--- own).
+-- Why a driver answers with a fault, and which (SOAP 1.2 Part 1, section 5.4.6; WS-Addressing 1.0 SOAP Binding, section
+-- 6.4). The reasons are this project's own.
 use Rattle.std.specs.Prelude.{ℕ, List, codes, Option, Some, None, Result, Ok, Err}
 use Rattle.std.specs.Result.{result_ok}
 use Rattle.pws_soap.specs.Envelopes.{Enveloped}

@@ -1,5 +1,5 @@
--- The envelopes that drivers make: calls, replies and faults; they are this project's own. The action of a fault is that of
--- WS-Addressing 1.0 SOAP Binding, section 6.
+-- The envelopes that drivers make: calls, replies and faults; they are this project's own. The action of a fault is from
+-- WS-Addressing 1.0 SOAP Binding, section 6; that all faults have this one is this project's own.
 use Rattle.std.specs.Prelude.{ℕ, Bool, nat_le, if◌then◌else◌, List, [], ◌∷◌, length, codes, Option, Some, None}
 use Rattle.pws_tree.specs.Trees.{Tree, Nodes, NoNode}
 use Rattle.pws_tree.specs.declared.texts.Name.{Name}

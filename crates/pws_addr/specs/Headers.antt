@@ -5,11 +5,11 @@ use Rattle.pws_soap.specs.Names.{addressing_space}
 use Rattle.pws_addr.specs.declared.headers.Header.{Header}
 use Rattle.pws_addr.specs.declared.headers.Header.TheVariants as header
 
--- section 2.1: the address that names the sender's own connection
+-- section 3.2: the address of a message without To, and of its reply without ReplyTo: the sender's own connection
 unfoldable pub anonymous : List ℕ
 anonymous = codes "http://www.w3.org/2005/08/addressing/anonymous"
 
--- section 3.1: the relation of a reply, which holds where no other is told
+-- section 3.2: the relation of a reply, which holds where no other is told
 unfoldable pub reply_relation : List ℕ
 reply_relation = codes "http://www.w3.org/2005/08/addressing/reply"
 

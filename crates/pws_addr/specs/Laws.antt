@@ -1,11 +1,10 @@
 -- What is put into an envelope is what is read there, and what drivers make fits into a body.
-use Rattle.std.specs.Prelude.{◌≡◌, ℕ, ◌^◌, ◌<◌, ◌≤◌, Bool, not, ◌&&◌, List, [], ◌∷◌, ◌++◌, map, length, codes, Option, Ok, IsTrue}
+use Rattle.std.specs.Prelude.{◌≡◌, ℕ, ◌^◌, ◌<◌, ◌≤◌, Bool, not, ◌&&◌, List, [], ◌∷◌, ◌++◌, map, filter, length, Option, Ok, IsTrue}
 use Rattle.std.specs.List.{list_all}
 use Rattle.std.specs.Option.{option_to_list}
 use Rattle.std.specs.Str.{bytes_eq}
 use Rattle.pws_tree.specs.Trees.{Tree}
-use Rattle.pws_soap.specs.Blocks.{is_for_node}
-use Rattle.pws_soap.specs.Names.{is_addressing_header}
+use Rattle.pws_soap.specs.Blocks.{is_for_node, is_addressing_header}
 use Rattle.pws_soap.specs.White.{trim}
 use Rattle.pws_addr.specs.Blocks.{blocks_of}
 use Rattle.pws_addr.specs.Envelopes.{fault_text, reply_text}
@@ -35,6 +34,10 @@ texts_of a =
 -- behind header blocks that are other ones, the blocks of an addressing say it
 abbrev pub PutIsRead : Type 0
 PutIsRead = (headers : List Tree) (a : Addressing) → IsTrue (list_all is_other headers) → IsTrue (list_all is_sayable (texts_of a)) → addressing_of (headers ++ blocks_of a) ≡ Ok a
+
+-- the header blocks for this node alone count
+abbrev pub OursCount : Type 0
+OursCount = (headers : List Tree) → addressing_of (filter is_for_node headers) ≡ addressing_of headers
 
 -- the numbers of groups are below 256, and those of calls below 2 ^ 32
 abbrev pub FaultsFit : Type 0

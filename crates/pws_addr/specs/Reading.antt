@@ -1,5 +1,5 @@
 -- What the addressing headers for this node say (WS-Addressing 1.0 Core, section 3; SOAP Binding, section 3). The order of
--- the refusals is this project's own.
+-- the refusals, and that reference parameters and blocks for the role none aren't looked at, are this project's own.
 use Rattle.std.specs.Prelude.{◌≡◌, ℕ, Bool, not, ◌&&◌, if◌then◌else◌, nat_lt, List, [], ◌∷◌, ◌++◌, length, filter, find, Option, Some, None, is_some, unwrap_or, option_and_then, Result, Ok, Err}
 use Rattle.std.specs.List.{list_any, filter_map}
 use Rattle.std.specs.Option.{option_map}
@@ -55,7 +55,7 @@ address_said children = option_and_then (λ t. text_said t.children) (only_of (f
 abbrev pub said : Header → Tree → Option (List ℕ)
 said h block = if holds_address h then address_said block.children else text_said block.children
 
--- Core, section 3.1: the relation, which is that of a reply where none is told
+-- Core, section 3.2: the relation, which is that of a reply where none is told
 abbrev pub is_relationship : Attr → Bool
 is_relationship a = is_named [] relationship_word a.name
 

@@ -1,10 +1,8 @@
 //! The envelopes that drivers make: calls, replies and faults.
 
-ghost use Rattle.std.specs.Prelude.{◌≡◌, ◌≤◌, length, IfOk, IsTrue};
+ghost use Rattle.std.specs.Prelude.{◌≡◌, ◌≤◌, length, IfOk, IfSome, IsTrue};
 ghost use Rattle.std.specs.Option.{option_copied};
-ghost use Rattle.pws_tree.specs.Characters.{is_xml_text, is_local_name};
-ghost use Rattle.pws_tree.specs.Lawful.{is_lawful, tree_depth};
-ghost use Rattle.pws_tree.specs.Nodes.{nodes_of};
+ghost use Rattle.pws_tree.specs.Characters.{is_local_name};
 ghost use Rattle.pws_mark.specs.Canonical.{canonical};
 ghost use Rattle.pws_soap.specs.Envelopes.{root_of};
 ghost use Rattle.pws_soap.specs.Faults.{text_nodes};
@@ -17,7 +15,7 @@ use crate::headers::Addressing;
 use crate::identifiers::{call_id, group_address, reply_id};
 use crate::putting::{put_addressing, text_nodes};
 use crate::replies::{anonymous, reply_action, reply_of};
-use crate::xml_texts::XmlText;
+use pws_tree::xml_texts::XmlText;
 use pws_base::bytes::Bytes;
 use pws_base::lists::Sequence;
 use pws_base::memory::Memory;
@@ -45,21 +43,20 @@ fn service_name(alloc: Global, local: &str) -> Result<Name, Memory>
 
 /// A `text` with this text.
 #[tactic(auto, unfolding(crate::specs::Envelopes::text_local))]
-fn text_element(alloc: Global, text: &str) -> Result<Element, Memory>
-    requires { IsTrue (is_xml_text text.now) }
+fn text_element(alloc: Global, text: &XmlText) -> Result<Element, Memory>
     ensures { IfOk result (λ t. t ≡ service_tree text_local (text_nodes text.now)) }
 {
     let name = service_name(alloc, "text")?;
-    let children = text_nodes(alloc, text)?;
+    let children = text_nodes(alloc, text.as_str())?;
     Ok(Element::of_lawful(name, Vec::new(alloc), children))
 }
 
 /// An element with one child `text`.
-fn message_element(alloc: Global, local: &str, text: &str) -> Result<Element, Memory>
-    requires name { IsTrue (is_local_name local.now) }
-    requires text { IsTrue (is_xml_text text.now) }
+fn message_element(alloc: Global, local: &str, text: &XmlText) -> Result<Element, Memory>
+    requires { IsTrue (is_local_name local.now) }
     ensures { IfOk result (λ t. t ≡ message_tree local.now text.now) }
 {
+    let _lawful = text.as_str();
     let name = service_name(alloc, local)?;
     let inner = text_element(alloc, text)?;
     let children = vec![in alloc; Node::Element(inner)]?;
@@ -83,10 +80,9 @@ fn message_text(
     alloc: Global,
     addressing: &Addressing,
     local: &str,
-    text: &str,
+    text: &XmlText,
 ) -> Result<Bytes, Memory>
-    requires name { IsTrue (is_local_name local.now) }
-    requires text { IsTrue (is_xml_text text.now) }
+    requires { IsTrue (is_local_name local.now) }
     ensures { IfOk result (λ written. written ≡ envelope_text addressing.now (message_tree local.now text.now)) }
 {
     let message = message_element(alloc, local, text)?;
@@ -137,8 +133,8 @@ fn call_addressing(
     })
 }
 
-/// The text of the envelope of a call of the group `me`, with a text of XML characters in its body, which
-/// `pws_tree::characters::is_xml_text` tests. None exactly where it would be longer than a body may be, 32,768 bytes.
+/// The text of the envelope of a call of the group `me`, with a text in its body. None exactly where it would be longer
+/// than a body may be, 32,768 bytes.
 ///
 /// # Errors
 ///
@@ -149,10 +145,10 @@ pub fn call_text(
     me: GroupId,
     called: GroupId,
     number: Number,
-    text: &str,
+    text: &XmlText,
 ) -> Result<Option<Bytes>, Memory>
-    requires { IsTrue (is_xml_text text.now) }
-    ensures { IfOk result (λ written. written ≡ call_text me called number text.now) }
+    ensures value { IfOk result (λ written. written ≡ call_text me called number text.now) }
+    ensures fits { IfOk result (λ written. IfSome written (λ body. length body ≤ 32768)) }
 {
     let addressing = call_addressing(alloc, me, called, number)?;
     let written = message_text(alloc, &addressing, "call", text)?;
@@ -232,15 +228,9 @@ fn fault_envelope_text(
     addressed_text(alloc, envelope, &addressing)
 }
 
-/// The text of the fault by which the group `me` answers a caller's request with this addressing, or without readable
-/// addressing. Where it would be longer than a body may be, 32,768 bytes, it is addressed as if the request had no
-/// addressing.
-///
-/// # Errors
-///
-/// `Memory` only.
+/// The text of the fault that answers a request, addressed as if the request had no addressing where it would be too long.
 #[tactic(auto, unfolding(crate::specs::Envelopes::fault_text))]
-pub fn fault_text(
+fn fault_given(
     alloc: Global,
     me: GroupId,
     caller: GroupId,
@@ -257,6 +247,28 @@ pub fn fault_text(
     fault_envelope_text(alloc, me, caller, number, None, cause)
 }
 
+/// The text of the fault by which the group `me` answers a caller's request with this addressing, or without readable
+/// addressing. Where it would be longer than a body may be, 32,768 bytes, it is addressed as if the request had no
+/// addressing.
+///
+/// # Errors
+///
+/// `Memory` only.
+pub fn fault_text(
+    alloc: Global,
+    me: GroupId,
+    caller: GroupId,
+    number: Number,
+    addressing: Option<&Addressing>,
+    cause: Cause,
+) -> Result<Bytes, Memory>
+    ensures value { IfOk result (λ text. text ≡ fault_text me caller number (option_copied addressing.entry) cause) }
+    ensures fits { IfOk result (λ text. length text ≤ 32768) }
+{
+    let text = fault_given(alloc, me, caller, number, addressing, cause)?;
+    Ok(text)
+}
+
 /// The text of the envelope of a reply, however long it is.
 #[tactic(auto, unfolding(crate::specs::Envelopes::reply_local))]
 fn reply_envelope_text(
@@ -265,32 +277,24 @@ fn reply_envelope_text(
     caller: GroupId,
     number: Number,
     addressing: Option<&Addressing>,
-    text: &str,
+    text: &XmlText,
 ) -> Result<Bytes, Memory>
-    requires { IsTrue (is_xml_text text.now) }
     ensures { IfOk result (λ written. written ≡ reply_envelope_text me caller number (option_copied addressing.entry) text.now) }
 {
     let addressing = reply_addressing(alloc, me, caller, number, addressing)?;
     message_text(alloc, &addressing, "reply", text)
 }
 
-/// The text of the reply of the group `me` to a caller's request with this addressing, or without readable addressing,
-/// with a text of XML characters in its body, which `pws_tree::characters::is_xml_text` tests. Where it would be longer
-/// than a body may be, 32,768 bytes, it is the fault in its place, addressed as if the request had no addressing.
-///
-/// # Errors
-///
-/// `Memory` only.
+/// The text of the reply to a request, or of the fault in its place where it would be too long.
 #[tactic(auto, unfolding(crate::specs::Envelopes::reply_text))]
-pub fn reply_text(
+fn reply_given(
     alloc: Global,
     me: GroupId,
     caller: GroupId,
     number: Number,
     addressing: Option<&Addressing>,
-    text: &str,
+    text: &XmlText,
 ) -> Result<Bytes, Memory>
-    requires { IsTrue (is_xml_text text.now) }
     ensures { IfOk result (λ written. written ≡ reply_text me caller number (option_copied addressing.entry) text.now) }
 {
     let written = reply_envelope_text(alloc, me, caller, number, addressing, text)?;
@@ -298,6 +302,28 @@ pub fn reply_text(
         return Ok(written);
     }
     fault_envelope_text(alloc, me, caller, number, None, Cause::ReplyTooLong)
+}
+
+/// The text of the reply of the group `me` to a caller's request with this addressing, or without readable addressing,
+/// with a text in its body. Where it would be longer than a body may be, 32,768 bytes, it is the fault in its place,
+/// addressed as if the request had no addressing.
+///
+/// # Errors
+///
+/// `Memory` only.
+pub fn reply_text(
+    alloc: Global,
+    me: GroupId,
+    caller: GroupId,
+    number: Number,
+    addressing: Option<&Addressing>,
+    text: &XmlText,
+) -> Result<Bytes, Memory>
+    ensures value { IfOk result (λ written. written ≡ reply_text me caller number (option_copied addressing.entry) text.now) }
+    ensures fits { IfOk result (λ written. length written ≤ 32768) }
+{
+    let written = reply_given(alloc, me, caller, number, addressing, text)?;
+    Ok(written)
 }
 
 /// The text of a fault that answers no request, without header blocks.

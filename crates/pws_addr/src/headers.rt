@@ -4,7 +4,7 @@ ghost use Rattle.std.specs.Prelude.{◌≡◌, IfOk};
 ghost use Rattle.pws_addr.specs.Blocks.{holds_address};
 ghost use Rattle.pws_addr.specs.Headers.{addressing_name, header_local, header_name};
 
-use crate::xml_texts::XmlText;
+use pws_tree::xml_texts::XmlText;
 use pws_base::lists::{ExactCopy, Sequence};
 use pws_base::memory::Memory;
 use pws_soap::names::ADDRESSING_SPACE;
@@ -107,7 +107,7 @@ pub const ALL_HEADERS: [Header; 7] = [
 /// How a message relates to another.
 #[derive(Clone, Debug, Drop, PartialEq, Eq)]
 pub struct Relation {
-    /// The relation, an IRI.
+    /// The relation, as it stands: any text, maybe an empty one.
     pub kind: XmlText,
     /// The identifier of the other message.
     pub id: XmlText,

@@ -1,6 +1,6 @@
 //! Laws of addressing and of the envelopes of drivers. The functions do nothing: their contracts are the laws.
 
-ghost use Rattle.pws_addr.specs.Laws.{FaultsFit, PutIsRead, RepliesFit};
+ghost use Rattle.pws_addr.specs.Laws.{FaultsFit, OursCount, PutIsRead, RepliesFit};
 
 /// What an addressing puts into an envelope is what is read there: behind header blocks of which none is an addressing
 /// header for this node, the blocks of an addressing say that addressing, where its texts are ones that a header can say,
@@ -8,6 +8,12 @@ ghost use Rattle.pws_addr.specs.Laws.{FaultsFit, PutIsRead, RepliesFit};
 #[tactic(auto, using(crate::proofs::Again::put_is_read))]
 pub fn put_is_read()
     ensures { PutIsRead }
+{}
+
+/// The header blocks for this node alone count.
+#[tactic(auto, using(crate::proofs::Counting::ours_count))]
+pub fn ours_count()
+    ensures { OursCount }
 {}
 
 /// A fault that answers a request has at most 32,768 bytes, and so fits into a body.

@@ -1,6 +1,5 @@
 //! Addressing headers, and the envelopes that drivers make.
 //!
-//! - `xml_texts` has texts of XML characters.
 //! - `headers` has the addressing of a message, and the names of its headers.
 //! - `reading` reads the addressing of an envelope, and `putting` writes one into it.
 //! - `replies` has the addressing of a reply.
@@ -26,4 +25,3 @@ pub mod laws;
 pub mod putting;
 pub mod reading;
 pub mod replies;
-pub mod xml_texts;

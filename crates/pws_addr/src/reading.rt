@@ -12,7 +12,7 @@ ghost use Rattle.pws_addr.specs.Reading.{is_block, some_text, only_text, text_sa
 use crate::headers::{
     ALL_HEADERS, ANONYMOUS, Addressing, Header, REPLY_RELATION, Relation, SINGLE_HEADERS,
 };
-use crate::xml_texts::XmlText;
+use pws_tree::xml_texts::XmlText;
 use pws_base::lists::Sequence;
 use pws_base::memory::Memory;
 use pws_soap::blocks::is_for_node;

@@ -6,7 +6,7 @@ ghost use Rattle.pws_addr.specs.Headers.{anonymous, reply_relation};
 ghost use Rattle.pws_addr.specs.Replies.{reply_action, in_reply, reply_of};
 
 use crate::headers::{ANONYMOUS, Addressing, REPLY_RELATION, Relation};
-use crate::xml_texts::XmlText;
+use pws_tree::xml_texts::XmlText;
 use pws_base::lists::{ExactCopy, Sequence};
 use pws_base::memory::Memory;
 use std::alloc::Global;

@@ -1,14 +1,12 @@
 -- What the texts of envelopes mean to a service; this project's own rules over SOAP 1.2 and WS-Addressing 1.0.
-use Rattle.std.specs.Prelude.{◌≡◌, ℕ, Bool, true, false, List, [], Option, Some, None, is_some, Result, Ok, Err}
+use Rattle.std.specs.Prelude.{◌≡◌, ℕ, Bool, true, false, List, [], Option, Some, None, is_some}
 use Rattle.std.specs.Option.{option_map, option_map_or}
 use Rattle.std.specs.Result.{result_ok}
 use Rattle.std.specs.Str.{bytes_eq}
 use Rattle.pws_tree.specs.Trees.{Tree}
 use Rattle.pws_mark.specs.Canonical.{canonical}
 use Rattle.pws_mark.specs.TreeOf.{tree_of}
-use Rattle.pws_soap.specs.Envelopes.{Enveloped, envelope_of, root_of, Answers}
-use Rattle.pws_soap.specs.declared.errors.SoapError.{SoapError}
-use Rattle.pws_soap.specs.declared.errors.SoapError.TheVariants as soap_error
+use Rattle.pws_soap.specs.Envelopes.{Enveloped, envelope_of, root_of}
 use Rattle.pws_addr.specs.Causes.{refusal_of, addressing_in}
 use Rattle.pws_addr.specs.Envelopes.{call_text, fault_text, reply_text, bare_fault_text}
 use Rattle.pws_addr.specs.declared.causes.Cause.{Cause}
@@ -77,25 +75,6 @@ soap_words = record {
   same_message = λ message other. same_text (written_of (envelope_at message)) (written_of (envelope_at other));
   field_text = λ message name. field_in (envelope_at message) name;
 }
-
--- ---- what reading a text answers
-
-abbrev pub IsUnread : Result Enveloped SoapError → Type 0
-IsUnread (Ok e) = ⊥
-IsUnread (Err (soap_error.Mark e)) = Unit {0}
-IsUnread (Err soap_error.NotEnvelope) = ⊥
-IsUnread (Err soap_error.Version) = ⊥
-IsUnread (Err soap_error.Order) = ⊥
-IsUnread (Err (soap_error.MustUnderstand n)) = ⊥
-IsUnread (Err soap_error.Memory) = Unit {0}
-
-abbrev pub AnswersBy : Option Tree → Result Enveloped SoapError → Type 0
-AnswersBy None answer = IsUnread answer
-AnswersBy (Some t) answer = Answers (envelope_of t) answer
-
--- the envelope that the text is, or why it is none; for want of memory there is no rule
-abbrev pub AnswersAt : List ℕ → Result Enveloped SoapError → Type 0
-AnswersAt text answer = AnswersBy (tree_of text) answer
 
 -- what a text says as a request
 abbrev pub IsRequestAt : List ℕ → Request → Type 0

@@ -4,7 +4,6 @@ ghost use Rattle.std.specs.Prelude.{◌≡◌, IfOk, is_some};
 ghost use Rattle.pws_envelopes.specs.SoapWords.{envelope_at, written_of, same_text, IsRequestAt};
 
 use crate::fields::field_of;
-use crate::reading::read_envelope;
 use pws_addr::causes::{Cause, Request, request_of};
 use pws_addr::envelopes::{bare_fault_text, call_text, fault_text, reply_text};
 use pws_base::bytes::Bytes;
@@ -12,8 +11,10 @@ use pws_base::memory::Memory;
 use pws_base::shapes::GroupId;
 use pws_driver::envelopes::Envelopes;
 use pws_driver::keys::Key;
+use pws_mark::laws::reading_gives_the_tree;
 use pws_soap::envelopes::Envelope;
 use pws_soap::errors::SoapError;
+use pws_soap::reading::read_envelope;
 use pws_soap::writing::write_envelope;
 use pws_tree::xml_texts::XmlText;
 use std::alloc::Global;
@@ -23,9 +24,11 @@ use std::alloc::Global;
 pub struct SoapEnvelopes;
 
 /// The envelope that a text is, if it is one.
+#[tactic(auto, using(crate::proofs::Reads::read_one, crate::proofs::Reads::read_none))]
 fn envelope_at(alloc: Global, text: &[u8]) -> Result<Option<Envelope>, Memory>
     ensures { IfOk result (λ e. e ≡ envelope_at text.now) }
 {
+    reading_gives_the_tree();
     match read_envelope(alloc, text) {
         Ok(envelope) => Ok(Some(envelope)),
         Err(SoapError::Memory) => Err(Memory),
@@ -34,9 +37,11 @@ fn envelope_at(alloc: Global, text: &[u8]) -> Result<Option<Envelope>, Memory>
 }
 
 /// What a text says as a request.
+#[tactic(auto, using(crate::proofs::Reads::request_read))]
 fn request_at(alloc: Global, text: &[u8]) -> Result<Request, Memory>
     ensures { IfOk result (λ r. IsRequestAt text.now r) }
 {
+    reading_gives_the_tree();
     let read = read_envelope(alloc, text);
     request_of(alloc, &read)
 }

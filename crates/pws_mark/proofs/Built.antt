@@ -1,5 +1,5 @@
 -- The tree that is built of events is the one that they stand for.
-use Rattle.std.proofs.Common.{◌≡◌, ℕ, zero, suc, ◌+◌, ◌-◌, ◌<◌, ◌≤◌, Bool, true, false, not, ◌&&◌, nat_le, cond, List, [], ◌∷◌, ◌++◌, take, drop, length, refl, ap, sym, ◌∙◌, subst, rules, arith, Option, Some, None, inl, inr, IsTrue, slice_set, slice_index_or}
+use Rattle.std.proofs.Common.{◌≡◌, ℕ, suc, ◌+◌, ◌-◌, ◌<◌, ◌≤◌, Bool, true, false, not, ◌&&◌, nat_le, cond, List, [], ◌∷◌, ◌++◌, take, drop, length, refl, ap, sym, ◌∙◌, subst, rules, arith, Some, None, inl, inr, IsTrue, slice_set, slice_index_or}
 use Rattle.std.specs.Prelude.{◌⊎◌, ◌==◌}
 use Rattle.std.specs.Cmp.{IsTotalOrder}
 use Rattle.std.specs.Cmp.Rules.{comparing}
@@ -13,10 +13,10 @@ use Rattle.std.proofs.lemmas.List.{set_split, take_more, take_all, drop_all}
 use Rattle.std.proofs.lemmas.List.Elements.{Contains-append_left, Contains-append_right, Contains-push, Contains-push_cases, Contains-append_cases}
 use Rattle.std.proofs.lemmas.List.Sorted.{IsPermutation-refl, IsPermutation-cons, IsPermutation-trans, IsPermutation-sym, IsPermutation-middle, Contains-permutation}
 use Rattle.pws_tree.specs.Lawful.{is_lawful, is_lawful_tag, is_lawful_text, are_lawful, starts_with_text, levels, tree_depth}
-use Rattle.pws_tree.specs.Made.{IsMadeOf}
+use Rattle.pws_tree.specs.Made.{IsMadeOf, CanMake}
 use Rattle.pws_tree.specs.Names.{name_cmp, ascend, is_lawful_name}
 use Rattle.pws_tree.specs.Nodes.{node_then, nodes_of}
-use Rattle.pws_tree.specs.Trees.{Tree, Nodes, NoNode, TextThen, QualifiedThen, ElementThen, top, add_element, add_text, add_qualified}
+use Rattle.pws_tree.specs.Trees.{Tree, Nodes, NoNode, ElementThen, top, add_element, add_text, add_qualified}
 use Rattle.pws_tree.specs.declared.texts.Name.{Name}
 use Rattle.pws_tree.specs.declared.texts.Attr.{Attr}
 use Rattle.pws_tree.specs.declared.trees.Node.{Node}
@@ -131,9 +131,12 @@ rising t h =
     let whole = and_parts (is_lawful_tag t.name t.attrs t.children && are_lawful t.children) (nat_le (tree_depth t) 64) h in
     (tag_parts t.name t.attrs t.children (and_parts (is_lawful_tag t.name t.attrs t.children) (are_lawful t.children) whole.0).0).rising
 
-pub not_bad : (f : Frame) (attrs : List Attr) (children : List Node) → attrs ≡ f.attrs → children ≡ f.children → IsTrue (is_lawful (frame_tree f)) → ((t : Tree) → IsMadeOf f.name attrs children t → ¬ (IsTrue (is_lawful t))) → ⊥
-not_bad f attrs children e g lawful bad =
-    bad (frame_tree f) (record { name_is = refl; attrs_are = subst (λ xs. IsPermutation xs (in_order f.attrs)) (sym e) (order_moves f.attrs); children_are = ap nodes_of (sym g) }) lawful
+pub can_make : (f : Frame) (attrs : List Attr) (children : List Node) → attrs ≡ f.attrs → children ≡ f.children → IsTrue (is_lawful (frame_tree f)) → CanMake f.name attrs children
+can_make f attrs children e g lawful = record {
+  tree = frame_tree f;
+  made = record { name_is = refl; attrs_are = subst (λ xs. IsPermutation xs (in_order f.attrs)) (sym e) (order_moves f.attrs); children_are = ap nodes_of (sym g) };
+  lawful = lawful;
+}
 
 pub made_is : (f : Frame) (attrs : List Attr) (children : List Node) (t : Tree) → attrs ≡ f.attrs → children ≡ f.children → IsTrue (is_lawful (frame_tree f)) → IsMadeOf f.name attrs children t → IsTrue (is_lawful t) → t ≡ frame_tree f
 unfolding tree_with

@@ -1,8 +1,8 @@
 -- The place is the number of bytes that were read.
-use Rattle.std.proofs.Common.{◌≡◌, ℕ, ◌+◌, List, [], ◌∷◌, ◌++◌, length, refl, ap, sym, ◌∙◌, arith, length-append, Option, Some, None}
+use Rattle.std.proofs.Common.{◌≡◌, ℕ, ◌+◌, List, [], ◌∷◌, ◌++◌, length, ap, arith, length-append, Option, Some, None}
 use Rattle.std.specs.Prelude.{option_map, encode_utf8, encode_utf8_all}
 use Rattle.pws_mark.specs.ReaderLaws.{PlacesCount}
-use Rattle.pws_mark.specs.Scan.{step, run, then_run, next, start}
+use Rattle.pws_mark.specs.Scan.{run, then_run, next, start}
 use Rattle.pws_mark.specs.States.{Outer, State}
 use Rattle.pws_mark.specs.declared.modes.Mode.{Mode}
 

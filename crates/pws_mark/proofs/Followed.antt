@@ -1,31 +1,30 @@
 -- The reader follows whole documents.
-use Rattle.std.proofs.Common.{◌≡◌, ◌≢◌, ℕ, ◌+◌, Bool, true, false, not, ◌&&◌, ◌||◌, List, [], ◌∷◌, ◌++◌, length, refl, ap, subst, sym, ◌∙◌, arith, length-append, append_assoc, append-nil, Option, Some, None}
-use Rattle.std.specs.Prelude.{◌==◌, encode_utf8, encode_utf8_all, if◌then◌else◌, IsTrue}
-use Rattle.std.specs.List.{list_all, flat_map}
-use Rattle.std.proofs.lemmas.Bool.{and_parts, not-true, not_from_false}
+use Rattle.std.proofs.Common.{◌≡◌, ◌≢◌, ℕ, ◌+◌, Bool, true, false, ◌&&◌, List, [], ◌∷◌, ◌++◌, length, refl, ap, subst, sym, ◌∙◌, arith, length-append, append_assoc, append-nil, Some}
+use Rattle.std.specs.Prelude.{◌==◌, encode_utf8, encode_utf8_all, if◌then◌else◌}
+use Rattle.std.specs.List.{list_all}
+use Rattle.std.proofs.lemmas.Bool.{and_parts, not_from_false}
 use lib.Utf8.{encode}
-use Rattle.pws_tree.specs.Characters.{is_name_start, xml_ranges, name_start_ranges, name_more_ranges}
-use Rattle.pws_tree.specs.Trees.{Nodes, NoNode, TextThen, QualifiedThen, ElementThen}
-use Rattle.pws_mark.specs.Bindings.{Bindings, bound_by, outermost, element_name}
-use Rattle.pws_mark.specs.Documents.{Piece, Char, Entity, Decimal, Hexadecimal, Tag, Content, Nothing, Text, Section, Comment, Hollow, Element, Document, spell_piece, spell_tag, spell_content, spell_head, spell_prolog, comment_start, comment_end}
-use Rattle.pws_mark.specs.Faults.{Fault, if_wrong, open_length, close_length, tag_faults, element_faults, faults_in, faults, is_value_name, content_faults_of}
-use Rattle.pws_mark.specs.Grammar.{is_tag, is_content, is_misc, is_root, is_nothing, is_declaration, is_document}
-use Rattle.pws_mark.specs.Meaning.{name_of, attrs_of, nodes_in, meaning, first_tree, name_within}
-use Rattle.pws_mark.specs.Noted.{noted, finds, then_noted, SameFaults, if_found, tag_finds, start_finds, hollow_finds, end_finds}
-use Rattle.pws_mark.specs.ReaderLaws.{Follows, DocumentsAreFollowed, Builds, read_events}
-use Rattle.pws_mark.specs.Scan.{next, run, then_run, region, region_in, start, outside, is_whole, content_step}
-use Rattle.pws_mark.specs.Spelling.{write, write_head, write_prolog, write_content, write_tag}
-use Rattle.pws_mark.specs.States.{Open, Outer, State, bound_at, read_bound, read_attrs, started, hollowed, ended, spoiled, is_empty, qualified_event, flushed}
-use Rattle.pws_mark.specs.TokenLaws.{Goes, state, ending, tag_read, early_faults, may_follow, HeadIsTaken}
-use Rattle.pws_mark.specs.Tokens.{is_white, is_name, goes_on, is_attribute, is_comment}
+use Rattle.pws_tree.specs.Characters.{is_name_start, name_start_ranges}
+use Rattle.pws_tree.specs.Trees.{NoNode, ElementThen}
+use Rattle.pws_mark.specs.Bindings.{bound_by, outermost, element_name}
+use Rattle.pws_mark.specs.Documents.{Char, Entity, Decimal, Hexadecimal, Tag, Content, Nothing, Text, Section, Comment, Hollow, Element, spell_tag, spell_content, spell_head, spell_prolog, comment_start, comment_end}
+use Rattle.pws_mark.specs.Faults.{Fault, if_wrong, open_length, close_length, tag_faults, element_faults, faults_in, is_value_name, content_faults_of}
+use Rattle.pws_mark.specs.Grammar.{is_tag, is_content, is_misc, is_root, is_declaration}
+use Rattle.pws_mark.specs.Meaning.{name_of, attrs_of, nodes_in, first_tree, name_within}
+use Rattle.pws_mark.specs.Noted.{noted, finds, SameFaults, if_found, tag_finds, start_finds, hollow_finds, end_finds}
+use Rattle.pws_mark.specs.ReaderLaws.{DocumentsAreFollowed}
+use Rattle.pws_mark.specs.Scan.{next, run, region, region_in, start, outside, is_whole, content_step}
+use Rattle.pws_mark.specs.Spelling.{write, write_head, write_content, write_tag}
+use Rattle.pws_mark.specs.States.{Open, Outer, read_attrs, started, hollowed, ended, is_empty, qualified_event, flushed}
+use Rattle.pws_mark.specs.TokenLaws.{Goes, state, ending, tag_read, early_faults, may_follow}
+use Rattle.pws_mark.specs.Tokens.{is_white, is_name, goes_on, is_comment}
 use Rattle.pws_mark.specs.declared.errors.MarkKind.TheVariants as kind
 use Rattle.pws_mark.specs.declared.modes.Event.TheVariants as event
-use Rattle.pws_mark.specs.declared.modes.Mode.{Mode}
 use Rattle.pws_mark.specs.declared.modes.Mode.TheVariants as mode
 use Rattle.pws_mark.specs.declared.modes.Region.{Region}
 use Rattle.pws_mark.specs.declared.modes.Region.TheVariants as region_is
-use Rattle.pws_mark.proofs.Going.{goes_on_to, goes_at, goes_once, goes_quietly, goes_nowhere, other}
-use Rattle.pws_mark.proofs.SameFaults.{same_faults, then_same, same_by, both_same}
+use Rattle.pws_mark.proofs.Going.{goes_on_to, goes_at, goes_once, goes_nowhere, other}
+use Rattle.pws_mark.proofs.SameFaults.{then_same, same_by, both_same}
 use Rattle.pws_mark.proofs.TakesComments.{comments_are_taken}
 use Rattle.pws_mark.proofs.TakesEnds.{ends_are_taken}
 use Rattle.pws_mark.proofs.TakesHeads.{heads_are_taken}
@@ -33,7 +32,7 @@ use Rattle.pws_mark.proofs.TakesTags.{starts_are_taken, hollows_are_taken}
 use Rattle.pws_mark.proofs.TakesPieces.{ending_found}
 use Rattle.pws_mark.proofs.Following.{outer_behind, found_in, marks_behind, return_behind, word_behind, with_word, opened_by, opens_behind, started_opens, closed, closed_in, closed_opens, inner_at, close_at, element_end_at, hollow_end_at, comment_end_at, content_goes, fits_none, element_back, element_size, comment_back}
 use Rattle.pws_mark.proofs.FollowsFaults.{tag_same, end_noted, hollow_noted, ending_append, bound_same, faults_same}
-use Rattle.pws_mark.proofs.FollowsEvents.{read_on, read_events_on, read_on_append, no_text, opened_on, nodes_inside, element_contents, closed_text, closed_events, started_text, attrs_same, none_parts, events_same}
+use Rattle.pws_mark.proofs.FollowsEvents.{read_on, read_events_on, read_on_append, no_text, opened_on, nodes_inside, element_contents, closed_events, attrs_same, none_parts, events_same}
 
 outside_of : Region → Bool
 outside_of region_is.Inside = false

@@ -1,8 +1,8 @@
 -- What the reader does over content: what is around it behind the content, and the faults that it notes.
-use Rattle.std.proofs.Common.{◌≡◌, ◌≢◌, ℕ, ◌+◌, ◌≤◌, Bool, true, false, not, ◌&&◌, List, [], ◌∷◌, ◌++◌, length, refl, ap, subst, sym, ◌∙◌, arith, length-append, append_assoc, append-nil, Option, Some, None}
-use Rattle.std.specs.Prelude.{◌==◌, option_map, encode_utf8, encode_utf8_all, if◌then◌else◌, IsTrue}
+use Rattle.std.proofs.Common.{◌≡◌, ◌≢◌, ℕ, ◌+◌, ◌≤◌, Bool, true, false, not, ◌&&◌, List, [], ◌∷◌, ◌++◌, length, refl, ap, subst, sym, ◌∙◌, arith, length-append, append_assoc, Option, Some, None}
+use Rattle.std.specs.Prelude.{◌==◌, option_map, encode_utf8, encode_utf8_all, if◌then◌else◌}
 use Rattle.std.specs.List.{list_all}
-use Rattle.std.proofs.lemmas.Bool.{and_parts, not-true, eqb-true, eq-eqb}
+use Rattle.std.proofs.lemmas.Bool.{and_parts, not-true, eqb-true}
 use lib.Utf8.{encode}
 use Rattle.pws_tree.specs.Characters.{xml_ranges}
 use Rattle.pws_mark.specs.Bindings.{piece_char, is_char}
@@ -16,10 +16,7 @@ use Rattle.pws_mark.specs.States.{Open, Outer, State, bound_at, read_bound, word
 use Rattle.pws_mark.specs.TokenLaws.{Goes, state, ending, tag_read, early_faults, brackets_behind, piece_bytes, all_taken}
 use Rattle.pws_mark.specs.Tokens.{is_white, is_name, is_piece, is_text_char, is_section, is_comment}
 use Rattle.pws_mark.specs.Values.{Marked}
-use Rattle.pws_mark.specs.declared.modes.Event.{Event}
-use Rattle.pws_mark.specs.declared.modes.Mode.{Mode}
 use Rattle.pws_mark.specs.declared.modes.Mode.TheVariants as mode
-use Rattle.pws_mark.specs.declared.modes.Region.{Region}
 use Rattle.pws_mark.specs.declared.modes.Region.TheVariants as region_is
 use Rattle.pws_mark.proofs.Going.{goes_on_to, goes_at, goes_once, goes_nowhere}
 use Rattle.pws_mark.proofs.TakesComments.{comments_are_taken}

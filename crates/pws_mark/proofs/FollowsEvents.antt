@@ -1,14 +1,12 @@
 -- What the reader builds over content is what the content stands for.
-use Rattle.std.proofs.Common.{◌≡◌, ℕ, suc, ◌+◌, Bool, true, false, not, ◌&&◌, ◌||◌, List, [], ◌∷◌, ◌++◌, map, take, drop, length, zero, refl, ap, subst, sym, ◌∙◌, arith, length-append, append_assoc, append-nil, Option, Some, None}
-use Rattle.std.specs.Prelude.{◌==◌, option_map, unwrap_or, is_none, take_while, encode_utf8, encode_utf8_all, if◌then◌else◌, IsTrue}
-use Rattle.std.specs.List.{list_all, flat_map, filter_map, cons_option, prefix_len}
+use Rattle.std.proofs.Common.{◌≡◌, ℕ, suc, ◌+◌, Bool, true, false, not, ◌&&◌, List, [], ◌∷◌, ◌++◌, take, drop, length, zero, refl, ap, sym, ◌∙◌, arith, append_assoc, append-nil, Option, Some, None}
+use Rattle.std.specs.Prelude.{◌==◌, option_map, unwrap_or, take_while, encode_utf8, encode_utf8_all, if◌then◌else◌}
+use Rattle.std.specs.List.{list_all, filter_map, cons_option, prefix_len}
 use Rattle.std.specs.Option.{option_and_then}
-use Rattle.std.proofs.lemmas.Str.{encodes-append}
 use Rattle.std.proofs.lemmas.List.{map-append}
 use lib.Utf8.{encode}
 use Rattle.pws_tree.specs.Names.{is_value, envelope_space}
-use Rattle.pws_tree.specs.Trees.{Nodes, NoNode, TextThen, QualifiedThen, ElementThen, add_text, add_qualified, add_element}
-use Rattle.pws_tree.specs.declared.texts.Attr.{Attr}
+use Rattle.pws_tree.specs.Trees.{Nodes, NoNode, TextThen, QualifiedThen, ElementThen}
 use Rattle.pws_tree.specs.declared.texts.Name.{Name}
 use Rattle.pws_mark.specs.Bindings.{Bindings, piece_char, is_char, bound_by, has_two_colons, element_name}
 use Rattle.pws_mark.specs.Documents.{Piece, Attribute, Tag, Content, Nothing, Text, Section, Comment, Hollow, Element, spell_piece, spell_attribute, spell_content, section_start}
@@ -16,14 +14,13 @@ use Rattle.pws_mark.specs.Faults.{Fault, open_length, is_value_name, content_fau
 use Rattle.pws_mark.specs.Meaning.{with_text, joined, nodes_in, name_of, attrs_of, attr_of, in_order, qualified_in, name_within, line_ends, char_text, no_name}
 use Rattle.pws_mark.specs.ReaderLaws.{read_event, read_events}
 use Rattle.pws_mark.specs.Scan.{text_bytes}
-use Rattle.pws_mark.specs.States.{Open, Outer, bound_at, read_bound, read_attrs, read_attr, flushed, word_of, word_in, with_char, text_after, qualified_event, started, hollowed, ended, taken, spoiled}
+use Rattle.pws_mark.specs.States.{Open, Outer, read_attrs, read_attr, flushed, word_of, word_in, with_char, text_after, qualified_event, started, hollowed, ended, taken, spoiled}
 use Rattle.pws_mark.specs.TokenLaws.{attributes_read, tag_read, all_taken, piece_bytes}
 use Rattle.pws_mark.specs.Tokens.{is_white, is_name}
 use Rattle.pws_mark.specs.Values.{Marked, marked, then_marked, placed, behind_white, first_word, letters, is_one_name}
 use Rattle.pws_mark.specs.declared.modes.Event.{Event}
 use Rattle.pws_mark.specs.declared.modes.Event.TheVariants as event
-use Rattle.pws_mark.specs.declared.modes.ReadAttribute.{ReadAttribute}
-use Rattle.pws_mark.proofs.Following.{taken_opens, chars_opens, hollowed_opens, spoiled_opens, spoiled_word, outer_behind, word_behind, word_behind_chars, with_word, opened_by, opens_behind, started_opens, closed, closed_in, closed_opens, inner_at, close_at, element_end_at, hollow_end_at, section_end_at, comment_end_at}
+use Rattle.pws_mark.proofs.Following.{taken_opens, chars_opens, hollowed_opens, spoiled_opens, spoiled_word, outer_behind, word_behind, word_behind_chars, with_word, opened_by, opens_behind, started_opens, closed, closed_in, closed_opens, inner_at, element_end_at, hollow_end_at, section_end_at, comment_end_at}
 use Rattle.pws_mark.proofs.FollowsFaults.{bound_around, word_none, word_whole}
 
 -- what events stand for before these nodes, from the right

@@ -1,16 +1,15 @@
 -- The faults that the reader notes over content are those of the content.
-use Rattle.std.proofs.Common.{◌≡◌, ℕ, suc, ◌+◌, Bool, true, false, not, ◌&&◌, ◌||◌, List, [], ◌∷◌, ◌++◌, map, length, refl, ap, subst, sym, ◌∙◌, arith, length-append, append_assoc, append-nil, Option, Some, None}
-use Rattle.std.specs.Prelude.{◌==◌, option_map, is_none, encode_utf8, encode_utf8_all, if◌then◌else◌, IsTrue, filter}
-use Rattle.std.specs.List.{list_all, list_any, flat_map, filter_map, cons_option}
+use Rattle.std.proofs.Common.{◌≡◌, ℕ, ◌+◌, Bool, true, false, not, ◌&&◌, ◌||◌, List, [], ◌∷◌, ◌++◌, map, length, refl, ap, subst, sym, ◌∙◌, arith, append_assoc, append-nil, Option, Some, None}
+use Rattle.std.specs.Prelude.{option_map, encode_utf8, encode_utf8_all, if◌then◌else◌, filter}
+use Rattle.std.specs.List.{list_any, filter_map, cons_option}
 use Rattle.std.specs.Str.{bytes_eq}
-use Rattle.pws_tree.specs.declared.texts.Name.{Name}
-use Rattle.pws_mark.specs.Bindings.{Bindings, xmlns_word, value_of, piece_char, is_char, is_bound, written_prefix, declared, declared_prefix, bound_by, are_twice, same_name, bound_name, has_two_colons, is_wrong_declaration, element_name}
+use Rattle.pws_mark.specs.Bindings.{Bindings, xmlns_word, value_of, piece_char, is_char, is_bound, written_prefix, declared, declared_prefix, bound_by, are_twice, same_name, element_name}
 use Rattle.pws_mark.specs.Canonical.{xml_word}
-use Rattle.pws_mark.specs.Documents.{Piece, Attribute, Tag, Content, Nothing, Text, Section, Comment, Hollow, Element, spell_piece, spell_attribute, spell_tag, spell_content, section_start}
+use Rattle.pws_mark.specs.Documents.{Attribute, Tag, Content, Nothing, Text, Section, Comment, Hollow, Element, spell_piece, spell_attribute, spell_content, section_start}
 use Rattle.pws_mark.specs.Faults.{Fault, if_wrong, first_place, value_faults, attributes_faults, depth_faults, tag_faults, piece_faults, content_faults_of, is_value_name, is_wrong_attribute, is_wrong_name, element_faults, open_length, close_length, faults_in}
 use Rattle.pws_mark.specs.Meaning.{name_within}
 use Rattle.pws_mark.specs.Noted.{SameFaults, if_found, attributes_finds, tag_finds, start_finds, hollow_finds, end_finds, content_finds, word_finds, are_read_twice, read_name, is_wrong_read}
-use Rattle.pws_mark.specs.States.{Open, Outer, bound_at, prefix_declared, read_declared, read_bound, word_of, word_in, with_char, started, hollowed, taken, spoiled}
+use Rattle.pws_mark.specs.States.{Open, Outer, bound_at, prefix_declared, read_declared, read_bound, word_in, with_char, started, hollowed, taken, spoiled}
 use Rattle.pws_mark.specs.TokenLaws.{ending, attributes_read, tag_read, values_faults, early_faults, all_taken, piece_bytes}
 use Rattle.pws_mark.specs.Tokens.{is_name}
 use Rattle.pws_mark.specs.Values.{Marked, letters, marked, then_marked, placed}
@@ -19,7 +18,7 @@ use Rattle.pws_mark.specs.declared.errors.MarkKind.TheVariants as kind
 use Rattle.pws_mark.specs.declared.modes.ReadAttribute.{ReadAttribute}
 use Rattle.pws_mark.proofs.SameFaults.{same_faults, then_same, same_by, both_same, same_shuffled, same_regrouped}
 use Rattle.pws_mark.proofs.TakesPieces.{ending_found}
-use Rattle.pws_mark.proofs.Following.{taken_opens, chars_opens, hollowed_opens, spoiled_opens, spoiled_word, outer_behind, found_in, word_behind, word_behind_chars, with_word, opened_by, opens_behind, started_opens, closed, closed_opens, inner_at, close_at, element_end_at, hollow_end_at, section_end_at, comment_end_at}
+use Rattle.pws_mark.proofs.Following.{taken_opens, chars_opens, hollowed_opens, spoiled_opens, spoiled_word, outer_behind, found_in, word_behind, word_behind_chars, with_word, opened_by, opens_behind, started_opens, closed, closed_opens, inner_at, element_end_at, hollow_end_at, section_end_at, comment_end_at}
 
 pub ending_append : (end : ℕ) (xs ys : List (MarkKind × ℕ)) → ending end (xs ++ ys) ≡ ending end xs ++ ending end ys
 ending_append end [] ys = refl

@@ -1,13 +1,12 @@
 -- The open elements, as the reader keeps them.
-use Rattle.std.proofs.Common.{◌≡◌, ℕ, zero, suc, ◌+◌, ◌-◌, ◌<◌, ◌≤◌, Bool, true, false, not, List, [], ◌∷◌, ◌++◌, length, take, fold, get_or, refl, ap, sym, ◌∙◌, arith, Some, None, Option, nat_eq}
-use Rattle.std.specs.Prelude.{option_map, find, is_none, if◌then◌else◌}
+use Rattle.std.proofs.Common.{◌≡◌, ℕ, ◌+◌, List, [], ◌∷◌, ◌++◌, length, fold, refl, ap, sym, ◌∙◌, arith, Some, None, Option, nat_eq}
+use Rattle.std.specs.Prelude.{option_map, find}
 use Rattle.std.specs.Str.{bytes_eq}
-use Rattle.std.proofs.lemmas.List.{take_more}
 use Rattle.std.proofs.lemmas.List.Folds.{find-append}
 use Rattle.std.proofs.lemmas.Bool.{ne_eqb}
 use Rattle.std.specs.Option.{option_or}
-use Rattle.pws_mark.specs.Bindings.{Bindings, space_at, outermost}
-use Rattle.pws_mark.specs.States.{Open, bound_at, is_empty}
+use Rattle.pws_mark.specs.Bindings.{Bindings, space_at}
+use Rattle.pws_mark.specs.States.{Open, is_empty}
 use Rattle.pws_mark.specs.Scopes.{opened, opens_of}
 use Rattle.pws_mark.specs.declared.scopes.OpenElement.{OpenElement}
 

@@ -1,12 +1,11 @@
 -- The least of all that refuses a text is what the reader keeps.
-use Rattle.std.proofs.Common.{◌≡◌, ◌⊎◌, inl, inr, ℕ, ◌<◌, ◌≤◌, Bool, true, false, ◌&&◌, ◌||◌, List, [], ◌∷◌, ◌++◌, length, refl, ap, subst, sym, ◌∙◌, arith, Option, Some, None}
+use Rattle.std.proofs.Common.{◌≡◌, ◌⊎◌, inl, inr, ℕ, ◌<◌, ◌≤◌, Bool, true, false, ◌&&◌, ◌||◌, List, [], ◌∷◌, refl, ap, subst, sym, ◌∙◌, arith, Some}
 use Rattle.std.specs.Prelude.{◌==◌, nat_lt, if◌then◌else◌, fold, Contains}
-use Rattle.std.proofs.lemmas.Bool.{and_parts}
 use Rattle.std.proofs.lemmas.Bool.Decides.{nat_tests}
-use Rattle.std.proofs.lemmas.List.Elements.{Contains-append_cases, Contains-append_left, Contains-append_right}
-use Rattle.pws_mark.specs.Causes.{rank, IsCause, IsLeastCause}
+use Rattle.std.proofs.lemmas.List.Elements.{Contains-append_cases, Contains-append_right}
+use Rattle.pws_mark.specs.Causes.{rank}
 use Rattle.pws_mark.specs.Least.{error_of, comes_before, lower, lowered}
-use Rattle.pws_mark.specs.Outcome.{AreCauses, LeastTells}
+use Rattle.pws_mark.specs.Outcome.{LeastTells}
 use Rattle.pws_mark.specs.declared.errors.MarkError.{MarkError}
 use Rattle.pws_mark.specs.declared.errors.MarkKind.{MarkKind}
 

@@ -1,30 +1,28 @@
 -- Where the reader stands in a document.
-use Rattle.std.proofs.Common.{◌≡◌, ◌≢◌, ℕ, ◌+◌, ◌<◌, ◌≤◌, nat_le, nat_lt, Bool, true, false, not, ◌&&◌, ◌||◌, cond, List, [], ◌∷◌, ◌++◌, length, refl, ap, subst, sym, ◌∙◌, arith, length-append, append_assoc, append-nil, Option, Some, None, inl, inr, codes, IsTrue}
+use Rattle.std.proofs.Common.{◌≡◌, ◌≢◌, ℕ, ◌+◌, ◌<◌, ◌≤◌, nat_le, nat_lt, Bool, true, false, not, ◌&&◌, ◌||◌, cond, List, [], ◌∷◌, ◌++◌, length, refl, ap, subst, sym, ◌∙◌, arith, length-append, append_assoc, append-nil, Option, Some, None, inl, inr, codes}
 use Rattle.std.specs.Prelude.{◌==◌, ◌⊎◌, option_map, encode_utf8, encode_utf8_all}
-use Rattle.std.specs.List.{flat_map, list_any, list_all}
+use Rattle.std.specs.List.{flat_map, list_all}
 use Rattle.std.specs.Str.{bytes_eq, str_to_ascii_lowercase}
 use Rattle.std.specs.Char.{to_ascii_lowercase}
 use Rattle.std.specs.Cmp.Lexicographic.{bytes_decides}
-use Rattle.std.proofs.lemmas.Bool.{and_parts, and_from, not_from_false, not-true, both_ways, or_from, or_cases, eqb-true, eqb-false, ne_eqb, le-leb, lt-leb, lt-ltb, le-ltb}
-use Rattle.std.proofs.lemmas.List.Folds.{list_any-append, list_all-append}
+use Rattle.std.proofs.lemmas.Bool.{and_parts, and_from, not_from_false, not-true, both_ways, or_cases, eqb-true, eqb-false, ne_eqb, le-leb, lt-leb, lt-ltb, le-ltb}
 use Rattle.std.proofs.lemmas.Str.{length-encode, len_utf8_bounds}
 use lib.Utf8.{encode}
 use Rattle.pws_tree.specs.Characters.{is_name_start, name_start_ranges}
-use Rattle.pws_mark.specs.Documents.{Piece, Char, Entity, Decimal, Hexadecimal, Attribute, Tag, Content, Nothing, Text, Section, Comment, Hollow, Element, Pseudo, Declaration, Document, spell_piece, spell_content, spell_head, spell_prolog, spell_declaration, comment_start, comment_end, byte_order_mark}
-use Rattle.pws_mark.specs.Faults.{open_length, close_length}
-use Rattle.pws_mark.specs.Grammar.{is_tag, is_content, is_misc, is_nothing, is_root, is_pseudo, is_optional, is_declaration, is_document}
+use Rattle.pws_mark.specs.Documents.{Char, Entity, Decimal, Hexadecimal, Tag, Content, Nothing, Text, Section, Comment, Hollow, Element, Pseudo, Declaration, Document, spell_content, spell_head, spell_prolog, spell_declaration, comment_start, comment_end, byte_order_mark}
+use Rattle.pws_mark.specs.Grammar.{is_tag, is_content, is_misc, is_root, is_pseudo, is_optional, is_declaration, is_document}
 use Rattle.pws_mark.specs.Places.{spans, is_inside}
-use Rattle.pws_mark.specs.ReaderLaws.{IsInProlog, IsPlaced, RunsArePlaced, is_early_in, is_before, is_early}
+use Rattle.pws_mark.specs.ReaderLaws.{IsInProlog, RunsArePlaced, is_early_in, is_early}
 use Rattle.pws_mark.specs.Scan.{next, run, then_run, step, start, outside, region, region_in, content_step, is_within}
-use Rattle.pws_mark.specs.Spelling.{write_attribute, write_tag, write_content, write_pseudo, write_optional, write_declaration, write_head, write_prolog, write}
-use Rattle.pws_mark.specs.States.{Open, Outer, State, started, hollowed, spoiled}
-use Rattle.pws_mark.specs.TokenLaws.{Goes, state, tag_read, may_follow}
+use Rattle.pws_mark.specs.Spelling.{write_attribute, write_tag, write_content, write_pseudo, write_optional, write_declaration, write}
+use Rattle.pws_mark.specs.States.{Open, Outer, State, started, hollowed}
+use Rattle.pws_mark.specs.TokenLaws.{state, tag_read, may_follow}
 use Rattle.pws_mark.specs.Tokens.{is_white, is_name, is_quote, is_comment, is_attribute}
 use Rattle.pws_mark.specs.declared.modes.Mode.{Mode}
 use Rattle.pws_mark.specs.declared.modes.Mode.TheVariants as mode
 use Rattle.pws_mark.specs.declared.modes.Region.TheVariants as region_is
 use Rattle.pws_mark.proofs.Counted.{counts}
-use Rattle.pws_mark.proofs.Following.{comment_end_at, hollow_end_at, inner_at, close_at, element_end_at, closed, outer_behind, word_behind, with_word, opened_by, started_opens, closed_opens, opens_behind, fits_none}
+use Rattle.pws_mark.proofs.Following.{comment_end_at, hollow_end_at, inner_at, element_end_at, closed, outer_behind, word_behind, with_word, opened_by, started_opens, closed_opens, opens_behind, fits_none}
 use Rattle.pws_mark.proofs.TakesComments.{comments_are_taken}
 use Rattle.pws_mark.proofs.TakesHeads.{whole_declaration, fresh_opened}
 use Rattle.pws_mark.proofs.PlainNames.{apart}

@@ -1,19 +1,18 @@
 -- The states along content, by their places.
-use Rattle.std.proofs.Common.{◌≡◌, ◌≢◌, ℕ, ◌+◌, ◌<◌, ◌≤◌, nat_le, nat_lt, Bool, true, false, not, ◌&&◌, ◌||◌, List, [], ◌∷◌, ◌++◌, length, refl, ap, subst, sym, ◌∙◌, arith, length-append, append_assoc, Option, Some, None, inl, inr}
-use Rattle.std.specs.Prelude.{◌==◌, ◌⊎◌, encode_utf8, encode_utf8_all}
+use Rattle.std.proofs.Common.{◌≡◌, ◌≢◌, ℕ, ◌+◌, ◌<◌, ◌≤◌, nat_le, nat_lt, Bool, true, false, not, ◌&&◌, ◌||◌, List, [], ◌∷◌, ◌++◌, length, refl, ap, subst, sym, ◌∙◌, arith, length-append, append_assoc, Some, inl, inr}
+use Rattle.std.specs.Prelude.{◌⊎◌, encode_utf8_all}
 use Rattle.std.specs.List.{list_all}
 use Rattle.std.proofs.lemmas.Bool.{and_parts, and_right, not-true, or_from, cases_lt, lt-leb, le-leb, lt-ltb, le-ltb}
 use Rattle.pws_mark.specs.Bindings.{piece_char, is_char}
-use Rattle.pws_mark.specs.Documents.{Piece, Tag, Content, Nothing, Text, Section, Comment, Hollow, Element, spell_piece, spell_tag, spell_content, section_start, section_end, comment_start, comment_end}
+use Rattle.pws_mark.specs.Documents.{Tag, Content, Nothing, Text, Section, Comment, Hollow, Element, spell_piece, spell_content, section_start, section_end, comment_start, comment_end}
 use Rattle.pws_mark.specs.Faults.{open_length, close_length}
 use Rattle.pws_mark.specs.Grammar.{is_content, is_tag, begins_with}
 use Rattle.pws_mark.specs.Places.{spans}
 use Rattle.pws_mark.specs.Scan.{run, then_run, step, region, region_in, is_within}
 use Rattle.pws_mark.specs.Spelling.{write_piece, write_tag, write_content}
 use Rattle.pws_mark.specs.States.{Open, Outer, State, started, hollowed, ended, taken, spoiled, with_char}
-use Rattle.pws_mark.specs.TokenLaws.{Goes, state, tag_read, brackets_behind, piece_bytes, all_taken}
+use Rattle.pws_mark.specs.TokenLaws.{state, tag_read, brackets_behind, piece_bytes, all_taken}
 use Rattle.pws_mark.specs.Tokens.{is_white, is_name, is_piece, is_text_char, is_section, is_comment, is_attribute}
-use Rattle.pws_mark.specs.declared.modes.Mode.{Mode}
 use Rattle.pws_mark.specs.declared.modes.Mode.TheVariants as mode
 use Rattle.pws_mark.specs.declared.modes.Region.TheVariants as region_is
 use Rattle.pws_mark.proofs.Counted.{counts}

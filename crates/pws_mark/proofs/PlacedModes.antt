@@ -1,10 +1,10 @@
 -- What holds of all states along a run, and the states outside of comments and sections.
-use Rattle.std.proofs.Common.{◌≡◌, ℕ, ◌+◌, ◌≤◌, Bool, true, false, not, ◌&&◌, ◌||◌, cond, List, [], ◌∷◌, ◌++◌, length, refl, ap, subst, sym, ◌∙◌, arith, length-append, Option, Some, None}
+use Rattle.std.proofs.Common.{◌≡◌, ℕ, ◌+◌, ◌≤◌, Bool, true, false, not, ◌&&◌, cond, List, [], ◌∷◌, ◌++◌, length, refl, ap, subst, sym, ◌∙◌, arith, length-append, Option, Some, None}
 use Rattle.std.specs.Prelude.{◌==◌, option_map, encode_utf8, encode_utf8_all}
 use Rattle.std.specs.List.{list_all}
 use Rattle.std.proofs.lemmas.Bool.{and_parts, both_ways, not-true}
 use Rattle.pws_tree.specs.Characters.{is_name_start, is_name_char}
-use Rattle.pws_mark.specs.Scan.{next, step, run, then_run, stays, to, either, region, region_in, start_step, head_opened_step, declaring_step, in_declaration, content_step, reference_step, in_text, opened_step, tag_name_step, tag_step, in_tag_step, attribute_name_step, before_equals_step, after_equals_step, value_step, in_value, end_name_step, end_gap_step, is_within, has_at}
+use Rattle.pws_mark.specs.Scan.{next, step, run, then_run, stays, either, region, start_step, head_opened_step, declaring_step, in_declaration, content_step, reference_step, in_text, opened_step, tag_name_step, tag_step, attribute_name_step, before_equals_step, after_equals_step, value_step, in_value, end_name_step, end_gap_step, is_within, has_at}
 use Rattle.pws_mark.specs.States.{Open, Outer, State}
 use Rattle.pws_mark.specs.Tokens.{is_white, is_quote, is_text_char, is_value_char}
 use Rattle.pws_mark.specs.declared.modes.Declaring.{Declaring}

@@ -1,10 +1,10 @@
 -- Where the comments and sections of content are: none before it, and none behind it.
-use Rattle.std.proofs.Common.{◌≡◌, ℕ, ◌+◌, ◌<◌, ◌≤◌, nat_le, nat_lt, Bool, true, false, not, ◌&&◌, ◌||◌, List, [], ◌∷◌, ◌++◌, length, refl, ap, sym, ◌∙◌, arith, length-append}
+use Rattle.std.proofs.Common.{◌≡◌, ℕ, ◌+◌, ◌<◌, ◌≤◌, nat_le, nat_lt, Bool, false, ◌&&◌, ◌||◌, List, ◌∷◌, ◌++◌, length, refl, ◌∙◌, arith, length-append}
 use Rattle.std.specs.Prelude.{encode_utf8_all}
 use Rattle.std.specs.List.{list_any}
 use Rattle.std.proofs.lemmas.Bool.{and_left, and_right, or_from, lt-leb, le-ltb}
 use Rattle.std.proofs.lemmas.List.Folds.{list_any-append}
-use Rattle.pws_mark.specs.Documents.{Piece, Tag, Content, Nothing, Text, Section, Comment, Hollow, Element, spell_piece, spell_tag, spell_content, section_start, section_end, comment_start, comment_end}
+use Rattle.pws_mark.specs.Documents.{Tag, Content, Nothing, Text, Section, Comment, Hollow, Element, spell_piece, spell_tag, spell_content, section_start, section_end, comment_start, comment_end}
 use Rattle.pws_mark.specs.Faults.{open_length, close_length}
 use Rattle.pws_mark.specs.Places.{spans}
 

@@ -1,16 +1,16 @@
 -- The states along tokens: outside of comments and sections but behind what opens one.
-use Rattle.std.proofs.Common.{◌≡◌, ℕ, zero, suc, ◌+◌, ◌-◌, ◌<◌, ◌≤◌, nat_lt, replicate, Bool, true, false, not, ◌&&◌, ◌||◌, cond, List, [], ◌∷◌, ◌++◌, length, refl, ap, subst, sym, ◌∙◌, arith, length-append, Option, Some, None}
+use Rattle.std.proofs.Common.{◌≡◌, ℕ, zero, suc, ◌+◌, ◌-◌, ◌<◌, ◌≤◌, nat_lt, replicate, Bool, true, false, not, ◌&&◌, cond, List, [], ◌∷◌, ◌++◌, length, refl, ap, subst, sym, ◌∙◌, arith, length-append, Some}
 use Rattle.std.specs.Prelude.{◌==◌, nat_eq, option_map, encode_utf8, encode_utf8_all, if◌then◌else◌}
 use Rattle.std.specs.List.{flat_map, list_all, starts_with}
 use Rattle.std.specs.Str.{bytes_eq}
-use Rattle.std.proofs.lemmas.Bool.{and_parts, and_from, both_ways, not-true, not_from_false, or_parts, or_cases, eqb-true, eqb-false, eq-eqb, ne_eqb, lt-ltb, le-ltb}
+use Rattle.std.proofs.lemmas.Bool.{and_parts, and_from, both_ways, not-true, not_from_false, or_parts, eqb-true, lt-ltb, le-ltb}
 use Rattle.std.proofs.lemmas.List.Folds.{list_all-append}
 use lib.Utf8.{encode}
-use Rattle.pws_tree.specs.Characters.{is_xml_char, is_name_start, is_name_char, xml_ranges, name_start_ranges, name_more_ranges}
+use Rattle.pws_tree.specs.Characters.{is_xml_char, is_name_start, xml_ranges, name_start_ranges, name_more_ranges}
 use Rattle.pws_mark.specs.Digits.{is_digit, is_hexadecimal}
 use Rattle.pws_mark.specs.Documents.{Piece, Char, Entity, Decimal, Hexadecimal, Attribute, Tag, section_start, section_end, comment_start, comment_end}
 use Rattle.pws_mark.specs.Grammar.{is_tag}
-use Rattle.pws_mark.specs.Scan.{next, step, run, is_within, marks_after, region_in, content_step, stays, bang_step, brackets_taken, text_bytes, section_word}
+use Rattle.pws_mark.specs.Scan.{next, step, is_within, marks_after, region_in, stays, bang_step, brackets_taken, text_bytes, section_word}
 use Rattle.pws_mark.specs.Spelling.{write_piece, write_attribute, write_tag}
 use Rattle.pws_mark.specs.States.{Open, Outer, State, taken}
 use Rattle.pws_mark.specs.TokenLaws.{state}
@@ -18,7 +18,7 @@ use Rattle.pws_mark.specs.Tokens.{is_white, is_name, is_piece, is_text_char, is_
 use Rattle.pws_mark.specs.declared.modes.Mode.{Mode}
 use Rattle.pws_mark.specs.declared.modes.Mode.TheVariants as mode
 use Rattle.pws_mark.proofs.PlainNames.{apart}
-use Rattle.pws_mark.proofs.WrittenGrammar.{is_word_char, word_of, word_not}
+use Rattle.pws_mark.proofs.WrittenGrammar.{is_word_char, word_of}
 use Rattle.pws_mark.proofs.PlacedModes.{then_along, Along, along_both, IsFrom, along_places, IsOut, is_other, along_quiet, along_opened}
 
 -- No < in tokens.

@@ -1,9 +1,9 @@
 -- The characters of a document spell it.
-use Rattle.std.proofs.Common.{◌≡◌, ℕ, ◌+◌, Bool, true, false, not, ◌&&◌, ◌||◌, List, [], ◌∷◌, ◌++◌, length, refl, ap, subst, sym, ◌∙◌, arith, length-append, append_assoc, append-nil, Option, Some, None}
-use Rattle.std.specs.Prelude.{◌==◌, encode_utf8, encode_utf8_all, if◌then◌else◌, IsTrue, codes}
+use Rattle.std.proofs.Common.{◌≡◌, ℕ, Bool, true, false, not, ◌&&◌, ◌||◌, List, [], ◌∷◌, ◌++◌, refl, ap, ◌∙◌, append-nil, Option, Some, None}
+use Rattle.std.specs.Prelude.{encode_utf8, encode_utf8_all, if◌then◌else◌, codes}
 use Rattle.std.specs.List.{list_all, flat_map}
-use Rattle.std.specs.Str.{all_scalars, bytes_eq, str_to_ascii_lowercase}
-use Rattle.std.proofs.lemmas.Bool.{and_parts, and_from}
+use Rattle.std.specs.Str.{bytes_eq, str_to_ascii_lowercase}
+use Rattle.std.proofs.lemmas.Bool.{and_parts}
 use Rattle.std.proofs.lemmas.Str.{encodes-append}
 use lib.Utf8.{encode}
 use Rattle.pws_mark.specs.Documents.{Piece, Char, Entity, Decimal, Hexadecimal, Attribute, Tag, Content, Nothing, Text, Section, Comment, Hollow, Element, Pseudo, Declaration, Document, spell_piece, spell_attribute, spell_tag, spell_content, spell_pseudo, spell_optional, spell_declaration, spell_head, spell_prolog, spell, section_start, section_end, comment_start, comment_end}

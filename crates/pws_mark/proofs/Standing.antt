@@ -1,17 +1,17 @@
 -- What was read of a document: the elements that are open with their content so far, and how it may go on to a whole one.
-use Rattle.std.proofs.Common.{◌≡◌, ◌⊎◌, inl, inr, ℕ, suc, ◌+◌, ◌≤◌, ◌<◌, Bool, true, false, not, ◌&&◌, ◌||◌, List, [], ◌∷◌, ◌++◌, map, length, refl, ap, subst, sym, ◌∙◌, arith, length-append, append_assoc, append-nil, Option, Some, None}
-use Rattle.std.specs.Prelude.{◌==◌, if◌then◌else◌, IsTrue}
+use Rattle.std.proofs.Common.{◌≡◌, ◌⊎◌, inl, inr, ℕ, ◌+◌, ◌≤◌, ◌<◌, Bool, true, false, not, ◌&&◌, List, [], ◌∷◌, ◌++◌, map, refl, ap, sym, ◌∙◌, arith, append_assoc, append-nil, Option}
+use Rattle.std.specs.Prelude.{◌==◌, if◌then◌else◌}
 use Rattle.std.specs.List.{list_all}
 use Rattle.std.proofs.lemmas.Bool.{and_parts, and_from, not-true, not_from_false, eqb-true, eqb-false, eq-eqb, cases_lt}
-use Rattle.pws_tree.specs.Characters.{name_start_ranges, name_more_ranges}
+use Rattle.pws_tree.specs.Characters.{name_start_ranges}
 use Rattle.pws_mark.specs.Bindings.{is_char}
-use Rattle.pws_mark.specs.Documents.{Piece, Char, Entity, Decimal, Hexadecimal, Attribute, Tag, Content, Nothing, Text, Section, Comment, Hollow, Element, Declaration, Document, section_start, section_end, comment_start, comment_end}
-use Rattle.pws_mark.specs.Grammar.{is_tag, is_content, is_misc, is_root, is_nothing, is_declaration, is_document, begins_with}
-use Rattle.pws_mark.specs.Spelling.{write_piece, write_tag, write_content, write_declaration, write_head, write_prolog, write}
-use Rattle.pws_mark.specs.States.{Open, Outer, State}
+use Rattle.pws_mark.specs.Documents.{Piece, Char, Entity, Decimal, Hexadecimal, Tag, Content, Nothing, Text, Section, Comment, Hollow, Element, Declaration, Document, section_start, section_end, comment_start, comment_end}
+use Rattle.pws_mark.specs.Grammar.{is_tag, is_content, is_misc, is_root, is_declaration, is_document}
+use Rattle.pws_mark.specs.Spelling.{write_piece, write_tag, write_content, write_declaration, write}
+use Rattle.pws_mark.specs.States.{Open, Outer}
 use Rattle.pws_mark.specs.TokenLaws.{brackets_behind}
-use Rattle.pws_mark.specs.Tokens.{is_white, is_name, goes_on, is_piece, is_text_char, is_attribute, is_section, is_comment}
-use Rattle.pws_mark.proofs.Following.{marks_behind, Fits, fits_none}
+use Rattle.pws_mark.specs.Tokens.{is_white, is_name, is_piece, is_text_char, is_section, is_comment}
+use Rattle.pws_mark.proofs.Following.{marks_behind, Fits}
 
 -- content behind content
 abbrev pub join_content : Content → Content → Content

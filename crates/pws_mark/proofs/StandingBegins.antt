@@ -1,24 +1,22 @@
 -- What was read begins a document.
-use Rattle.std.proofs.Common.{◌≡◌, ℕ, ◌+◌, ◌≤◌, Bool, true, false, not, ◌&&◌, List, [], ◌∷◌, ◌++◌, length, refl, ap, subst, sym, ◌∙◌, arith, length-append, append_assoc, append-nil, Option, Some, None}
+use Rattle.std.proofs.Common.{◌≡◌, ℕ, Bool, true, false, not, ◌&&◌, List, [], ◌∷◌, ◌++◌, length, refl, ap, subst, sym, ◌∙◌, arith, length-append, append_assoc, append-nil, None}
 use Rattle.std.proofs.lemmas.Bool.{and_parts}
 use Rattle.std.proofs.lemmas.Str.{encodes-append}
 use Rattle.std.specs.Prelude.{encode_utf8_all}
 use Rattle.pws_mark.specs.Documents.{Document, Content, Nothing, Comment, spell_head, spell_prolog, comment_start, comment_end}
 use Rattle.pws_mark.specs.Grammar.{is_document, is_declaration, is_misc, is_root, is_content}
 use Rattle.pws_mark.specs.ReaderLaws.{RunsBegin, Begins, IsInProlog, is_early, is_early_in, is_before}
-use Rattle.pws_mark.specs.Scan.{run, start, is_whole, region}
+use Rattle.pws_mark.specs.Scan.{is_whole, region}
 use Rattle.pws_mark.specs.Spelling.{write, write_head, write_prolog, write_content}
 use Rattle.pws_mark.specs.States.{Outer, State, is_empty}
 use Rattle.pws_mark.specs.declared.modes.Mode.{Mode}
 use Rattle.pws_mark.specs.declared.modes.Mode.TheVariants as mode
-use Rattle.pws_mark.specs.declared.modes.Region.{Region}
-use Rattle.pws_mark.specs.declared.modes.Region.TheVariants as region_is
 use Rattle.pws_mark.proofs.Counted.{places_count}
 use Rattle.pws_mark.proofs.Spelled.{head_spelled, prolog_spelled}
 use Rattle.pws_mark.proofs.Standing.{Head, Context, Before, Inside, Behind, At, LawfulContext, Agrees, Reaches, written, write_front, finish, rest_of, write_finish, finish_lawful, with_content, written_with, lawful_with, names_of, frame_names}
 use Rattle.pws_mark.proofs.StandingModes.{StandsIn, region_of, region_agrees, mark_text}
 use Rattle.pws_mark.proofs.StandingHeads.{at_head, head_at, bare}
-use Rattle.pws_mark.proofs.StandingRuns.{stand, stands_at}
+use Rattle.pws_mark.proofs.StandingRuns.{stand}
 use Rattle.pws_mark.proofs.StandingDeclared.{ends}
 
 -- a place behind the head of a document and not behind its prolog

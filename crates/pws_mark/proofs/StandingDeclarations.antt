@@ -1,13 +1,13 @@
 -- What was read goes on with each character: in the literals of a declaration, and at its end.
-use Rattle.std.proofs.Common.{◌≡◌, inl, inr, ℕ, ◌+◌, Bool, true, false, not, ◌&&◌, ◌||◌, List, [], ◌∷◌, ◌++◌, map, length, refl, ap, subst, sym, ◌∙◌, arith, length-append, append_assoc, append-nil, Option, Some, None}
+use Rattle.std.proofs.Common.{◌≡◌, inl, inr, ℕ, ◌+◌, Bool, true, false, ◌&&◌, List, [], ◌∷◌, ◌++◌, map, length, refl, ap, subst, sym, ◌∙◌, length-append, append_assoc, append-nil, Option, Some, None}
 use Rattle.std.proofs.lemmas.List.{length-map}
-use Rattle.std.specs.Prelude.{◌==◌, option_map, if◌then◌else◌, codes}
+use Rattle.std.specs.Prelude.{◌==◌, option_map, codes}
 use Rattle.std.specs.List.{list_all}
 use Rattle.std.specs.Str.{bytes_eq, str_to_ascii_lowercase}
 use Rattle.std.proofs.lemmas.Bool.{and_parts, and_from, or_left, or_right, eqb-true}
 use Rattle.std.proofs.lemmas.Slice.Eq.{bytes_eq-Decides}
 use Rattle.pws_mark.specs.Documents.{Nothing, Pseudo, Declaration}
-use Rattle.pws_mark.specs.Grammar.{is_pseudo, is_optional, is_declaration}
+use Rattle.pws_mark.specs.Grammar.{is_declaration}
 use Rattle.pws_mark.specs.Scan.{next, stays, in_declaration, declaring_step, part_word, literal_word, part_behind, as_compared, has_at}
 use Rattle.pws_mark.specs.Spelling.{write_pseudo, write_optional, write_declaration}
 use Rattle.pws_mark.specs.States.{Outer}
@@ -18,11 +18,9 @@ use Rattle.pws_mark.specs.declared.modes.Literal.{Literal}
 use Rattle.pws_mark.specs.declared.modes.Literal.TheVariants as literal
 use Rattle.pws_mark.specs.declared.modes.Mode.{Mode}
 use Rattle.pws_mark.specs.declared.modes.Mode.TheVariants as mode
-use Rattle.pws_mark.specs.declared.modes.Part.{Part}
 use Rattle.pws_mark.specs.declared.modes.Part.TheVariants as part
-use Rattle.pws_mark.proofs.Standing.{At, Before}
 use Rattle.pws_mark.proofs.StandingTokens.{which}
-use Rattle.pws_mark.proofs.StandingModes.{Stands, StandsIn, mark_text, Declared, None_read, Version_read, Encoding_read, All_read, is_version, is_encoding, is_standalone, LawfulDeclared, write_declared, part_of, may_come, Declares, InPartAfter, part_with, InLiteral, InDeclarationEnd, InDeclaring}
+use Rattle.pws_mark.proofs.StandingModes.{Stands, mark_text, Declared, None_read, Version_read, Encoding_read, All_read, is_version, is_encoding, is_standalone, LawfulDeclared, write_declared, part_of, may_come, Declares, part_with, InLiteral, InDeclarationEnd, InDeclaring}
 use Rattle.pws_mark.proofs.StandingHeads.{at_head, none_step, Goes_on, part_after_more, word_goes, gap_goes, name_goes, before_goes, after_goes, choice_goes}
 use Rattle.pws_mark.proofs.StandingValues.{has_split, none_left}
 

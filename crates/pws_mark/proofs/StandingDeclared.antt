@@ -1,9 +1,8 @@
 -- What was read begins a document: in a declaration, and wherever the reader is.
-use Rattle.std.proofs.Common.{◌≡◌, ℕ, zero, suc, ◌+◌, ◌-◌, ◌<◌, ◌≤◌, Bool, true, false, ◌&&◌, List, [], ◌∷◌, ◌++◌, map, length, refl, ap, subst, sym, ◌∙◌, arith, length-append, Option, Some, None, slice_get}
+use Rattle.std.proofs.Common.{◌≡◌, ℕ, zero, suc, ◌+◌, ◌-◌, ◌<◌, ◌≤◌, Bool, true, false, List, [], ◌∷◌, map, length, refl, ap, subst, arith, length-append}
 use Rattle.std.proofs.lemmas.List.{length-map}
 use Rattle.std.proofs.lemmas.Bool.{eq-eqb}
-use Rattle.std.specs.Prelude.{◌==◌, option_map}
-use Rattle.pws_mark.specs.Scan.{next, stays, in_declaration, part_word, literal_word, as_compared, declaring_step, has_at, part_behind}
+use Rattle.pws_mark.specs.Scan.{next, part_word, literal_word, as_compared, declaring_step, has_at, part_behind}
 use Rattle.pws_mark.specs.States.{Outer}
 use Rattle.pws_mark.specs.declared.modes.Declaring.{Declaring}
 use Rattle.pws_mark.specs.declared.modes.Declaring.TheVariants as declaring
@@ -13,7 +12,7 @@ use Rattle.pws_mark.specs.declared.modes.Mode.{Mode}
 use Rattle.pws_mark.specs.declared.modes.Mode.TheVariants as mode
 use Rattle.pws_mark.specs.declared.modes.Part.{Part}
 use Rattle.pws_mark.specs.declared.modes.Part.TheVariants as part
-use Rattle.pws_mark.proofs.StandingModes.{InGap, InPartAfter, InPartName, InLiteral, InWord, may_come, Declared, None_read, Version_read, Encoding_read, All_read}
+use Rattle.pws_mark.proofs.StandingModes.{InLiteral, may_come, Declared, None_read, Version_read, Encoding_read, All_read}
 use Rattle.pws_mark.proofs.StandingEnds.{Ends, then_ends, content_ends, text_ends, comment_ends, dash_ends, bang_ends, opened_ends, head_opened_ends, start_ends, section_ends, section_word_ends, slash_ends, tag_name_ends, in_tag_ends, value_ends, after_equals_ends, before_equals_ends, attribute_name_ends, value_reference_ends, end_gap_ends, end_name_ends}
 use Rattle.pws_mark.proofs.TakesEnds.{has_none_behind}
 

@@ -1,22 +1,13 @@
 -- What was read begins a document, wherever the reader is: a few characters more, and no token is open.
-use Rattle.std.proofs.Common.{◌≡◌, ◌⊎◌, inl, inr, ℕ, zero, suc, ◌+◌, ◌<◌, ◌≤◌, Bool, true, false, not, ◌&&◌, ◌||◌, List, [], ◌∷◌, ◌++◌, map, length, refl, ap, subst, sym, ◌∙◌, arith, length-append, append_assoc, append-nil, Option, Some, None, slice_get}
-use Rattle.std.proofs.lemmas.List.{length-map}
-use Rattle.std.proofs.lemmas.Bool.{eqb-true, eq-eqb, and_from}
-use Rattle.std.specs.Prelude.{◌==◌, option_map, if◌then◌else◌, codes}
-use Rattle.std.specs.List.{list_all}
-use Rattle.pws_tree.specs.Characters.{is_xml_char, is_name_start, is_name_char, name_start_ranges, name_more_ranges, xml_ranges}
-use Rattle.pws_mark.specs.Bindings.{char_at, entity_char}
-use Rattle.pws_mark.specs.Scan.{next, stays, region, opened_step, bang_step, reference_step, section_word, part_word, literal_word, as_compared, declaring_step, has_at, outside, value_with_reference, with_attribute, part_behind, brackets_taken, text_bytes, end_gap_step, end_name_step}
+use Rattle.std.proofs.Common.{◌≡◌, ℕ, zero, suc, Bool, true, false, ◌&&◌, ◌||◌, List, [], ◌∷◌, ◌++◌, length, refl, ap, subst, sym, ◌∙◌, arith, append_assoc, append-nil, Some}
+use Rattle.std.proofs.lemmas.Bool.{eqb-true, eq-eqb}
+use Rattle.std.specs.Prelude.{◌==◌}
+use Rattle.pws_tree.specs.Characters.{name_start_ranges, name_more_ranges, xml_ranges}
+use Rattle.pws_mark.specs.Scan.{next, stays, region, opened_step, bang_step, reference_step, section_word, with_attribute, brackets_taken, text_bytes, end_gap_step, end_name_step}
 use Rattle.pws_mark.specs.States.{Open, Outer, taken, ended}
-use Rattle.pws_mark.specs.Tokens.{is_quote, is_value_char, is_white}
-use Rattle.pws_mark.specs.declared.modes.Declaring.{Declaring}
-use Rattle.pws_mark.specs.declared.modes.Declaring.TheVariants as declaring
-use Rattle.pws_mark.specs.declared.modes.Literal.{Literal}
-use Rattle.pws_mark.specs.declared.modes.Literal.TheVariants as literal
+use Rattle.pws_mark.specs.Tokens.{is_quote, is_value_char}
 use Rattle.pws_mark.specs.declared.modes.Mode.{Mode}
 use Rattle.pws_mark.specs.declared.modes.Mode.TheVariants as mode
-use Rattle.pws_mark.specs.declared.modes.Part.{Part}
-use Rattle.pws_mark.specs.declared.modes.Part.TheVariants as part
 use Rattle.pws_mark.specs.declared.modes.ReadName.{ReadName}
 use Rattle.pws_mark.specs.declared.modes.ReadTag.{ReadTag}
 use Rattle.pws_mark.specs.declared.modes.ReadValue.{ReadValue}
@@ -25,10 +16,9 @@ use Rattle.pws_mark.specs.declared.modes.Reference.TheVariants as reference
 use Rattle.pws_mark.specs.declared.modes.Region.{Region}
 use Rattle.pws_mark.specs.declared.modes.Region.TheVariants as region_is
 use Rattle.pws_mark.proofs.Standing.{Context, Before, Inside, Behind, At, Agrees, Reaches, written, innermost, is_inside, names_of, frame_names}
-use Rattle.pws_mark.proofs.StandingModes.{StandsIn, InDeclaring, InGap, InPartAfter, InLiteral, InWord, InEndName, InSectionWord, may_come, Declared, None_read, Version_read, Encoding_read, All_read, at_more}
+use Rattle.pws_mark.proofs.StandingModes.{StandsIn, at_more}
 use Rattle.pws_mark.proofs.StandingRuns.{goes_on}
-use Rattle.pws_mark.proofs.StandingHeads.{none_step}
-use Rattle.pws_mark.proofs.TakesEnds.{has_behind, has_none_behind}
+use Rattle.pws_mark.proofs.TakesEnds.{has_none_behind}
 
 -- from this mode a document is reached
 pub record Ends (m : Mode) (o : Outer) : Type 0 where

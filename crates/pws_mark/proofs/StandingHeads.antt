@@ -1,32 +1,25 @@
 -- What was read goes on with each character: at the head of a document.
-use Rattle.std.proofs.Common.{◌≡◌, ◌⊎◌, inl, inr, ℕ, zero, suc, ◌+◌, ◌≤◌, ◌<◌, Bool, true, false, not, ◌&&◌, ◌||◌, List, [], ◌∷◌, ◌++◌, map, take, length, refl, ap, subst, sym, ◌∙◌, arith, add-one, length-append, append_assoc, append-nil, Option, Some, None, slice_get}
-use Rattle.std.specs.Prelude.{◌==◌, option_map, if◌then◌else◌, IsTrue, codes}
-use Rattle.std.specs.List.{list_all}
-use Rattle.std.specs.Str.{bytes_eq, str_to_ascii_lowercase}
-use Rattle.std.proofs.lemmas.Bool.{and_parts, and_from, or_left, or_right, eqb-true, eqb-false, eq-eqb, cases_lt}
-use Rattle.std.proofs.lemmas.Slice.Eq.{bytes_eq-Decides}
-use Rattle.pws_mark.specs.Documents.{Char, Content, Nothing, Text, Pseudo, Declaration}
-use Rattle.pws_mark.specs.Grammar.{is_pseudo, is_optional, is_declaration}
-use Rattle.pws_mark.specs.Scan.{next, stays, region, region_in, opened_step, start_step, head_opened_step, in_declaration, declaring_step, gap_step, value_begins, part_word, literal_word, part_behind, as_compared, has_at}
-use Rattle.pws_mark.specs.Spelling.{write_pseudo, write_optional, write_declaration}
-use Rattle.pws_mark.specs.States.{Open, Outer}
-use Rattle.pws_mark.specs.Tokens.{is_white, is_gap, is_quote}
+use Rattle.std.proofs.Common.{◌≡◌, ◌⊎◌, inl, inr, ℕ, zero, suc, ◌+◌, ◌≤◌, ◌<◌, Bool, true, false, not, ◌&&◌, List, [], ◌∷◌, ◌++◌, take, length, refl, ap, subst, sym, ◌∙◌, arith, append_assoc, append-nil, Option, Some, None}
+use Rattle.std.specs.Prelude.{◌==◌, option_map, if◌then◌else◌, codes}
+use Rattle.std.proofs.lemmas.Bool.{and_parts, and_from, eqb-true}
+use Rattle.pws_mark.specs.Documents.{Char, Content, Nothing, Text, Declaration}
+use Rattle.pws_mark.specs.Scan.{next, stays, region, region_in, opened_step, in_declaration, declaring_step, gap_step, value_begins, part_word, literal_word, has_at}
+use Rattle.pws_mark.specs.States.{Outer}
+use Rattle.pws_mark.specs.Tokens.{is_white, is_quote}
 use Rattle.pws_mark.specs.declared.modes.Declaring.{Declaring}
 use Rattle.pws_mark.specs.declared.modes.Declaring.TheVariants as declaring
-use Rattle.pws_mark.specs.declared.modes.Literal.{Literal}
 use Rattle.pws_mark.specs.declared.modes.Literal.TheVariants as literal
 use Rattle.pws_mark.specs.declared.modes.Mode.{Mode}
 use Rattle.pws_mark.specs.declared.modes.Mode.TheVariants as mode
 use Rattle.pws_mark.specs.declared.modes.Part.{Part}
 use Rattle.pws_mark.specs.declared.modes.Part.TheVariants as part
-use Rattle.pws_mark.specs.declared.modes.Region.{Region}
 use Rattle.pws_mark.specs.declared.modes.Region.TheVariants as region_is
-use Rattle.pws_mark.proofs.Standing.{Head, LawfulHead, Context, Before, Inside, Behind, At, written, write_front}
+use Rattle.pws_mark.proofs.Standing.{Head, LawfulHead, Before, At, write_front}
 use Rattle.pws_mark.proofs.StandingTokens.{which}
-use Rattle.pws_mark.proofs.StandingModes.{InContent, Stands, StandsIn, IsOutside, InStart, InHeadOpened, mark_text, Declared, None_read, Version_read, Encoding_read, All_read, is_version, is_encoding, is_standalone, LawfulDeclared, write_declared, part_of, may_come, Declares, InWord, InGap, InPart, InPartName, InPartBefore, InPartAfter, part_with, InLiteral, InChoice, InDeclarationEnd, InDeclaring}
+use Rattle.pws_mark.proofs.StandingModes.{Stands, StandsIn, IsOutside, InStart, InHeadOpened, mark_text, Declared, None_read, Version_read, Encoding_read, All_read, write_declared, part_of, may_come, Declares, InWord, InGap, InPart, InPartName, InPartBefore, InPartAfter, InChoice, InDeclarationEnd}
 use Rattle.pws_mark.proofs.StandingSteps.{which_stays, never, has_more}
 use Rattle.pws_mark.proofs.StandingTags.{white_one, gap_one}
-use Rattle.pws_mark.proofs.StandingValues.{opened_stands, has_split, none_left}
+use Rattle.pws_mark.proofs.StandingValues.{opened_stands}
 
 -- a byte order mark or none, and comments and white space
 abbrev pub at_head : (o : Outer) (front : List ℕ) (mark : Bool) (declaration : Option Declaration) (before : Content) (more : List ℕ) → IsOutside o → LawfulHead (record { mark = mark; declaration = declaration; before = before }) → front ≡ write_front (record { mark = mark; declaration = declaration; before = before }) ++ more → At o front more

@@ -1,17 +1,14 @@
 -- What was read, by where the reader is.
-use Rattle.std.proofs.Common.{◌≡◌, ◌⊎◌, inl, inr, ℕ, zero, suc, ◌+◌, ◌-◌, ◌≤◌, ◌<◌, Bool, true, false, not, ◌&&◌, ◌||◌, List, [], ◌∷◌, ◌++◌, map, take, drop, replicate, length, refl, ap, subst, sym, ◌∙◌, arith, length-append, append_assoc, append-nil, Option, Some, None}
-use Rattle.std.specs.Prelude.{◌==◌, option_map, if◌then◌else◌, IsTrue, codes}
+use Rattle.std.proofs.Common.{◌≡◌, ℕ, ◌≤◌, ◌<◌, Bool, true, false, not, ◌||◌, List, [], ◌∷◌, ◌++◌, map, take, length, refl, ap, sym, ◌∙◌, append_assoc, append-nil, Option}
+use Rattle.std.specs.Prelude.{if◌then◌else◌, codes}
 use Rattle.std.specs.List.{list_all, flat_map}
 use Rattle.std.specs.Str.{bytes_eq, str_to_ascii_lowercase}
-use Rattle.std.proofs.lemmas.Bool.{and_parts, and_from, not-true, not_from_false, eqb-true, eqb-false, eq-eqb, cases_lt}
-use Rattle.pws_tree.specs.Characters.{is_xml_char, is_name_start, is_name_char}
-use Rattle.pws_mark.specs.Documents.{Piece, Char, Attribute, Tag, Content, Nothing, Text, Section, Comment, Hollow, Element, Pseudo, Declaration, section_start, section_end, comment_start, comment_end}
-use Rattle.pws_mark.specs.Grammar.{is_tag, is_misc, is_pseudo, is_optional, is_declaration}
-use Rattle.pws_mark.specs.Scan.{region, region_in, section_word, part_word, literal_word, as_compared, has_at}
-use Rattle.pws_mark.specs.Spelling.{write_piece, write_attribute, write_tag, write_content, write_pseudo, write_optional, write_declaration}
-use Rattle.pws_mark.specs.States.{Open, Outer, State, started, hollowed, ended, taken, spoiled, is_empty}
-use Rattle.pws_mark.specs.TokenLaws.{brackets_behind}
-use Rattle.pws_mark.specs.Tokens.{is_white, is_gap, is_name, is_piece, is_text_char, is_value_char, is_quote, is_attribute}
+use Rattle.pws_mark.specs.Documents.{Piece, Attribute, Pseudo, section_start, comment_start}
+use Rattle.pws_mark.specs.Grammar.{is_pseudo, is_optional}
+use Rattle.pws_mark.specs.Scan.{region, region_in, section_word, part_word, literal_word, as_compared}
+use Rattle.pws_mark.specs.Spelling.{write_piece, write_attribute, write_pseudo, write_optional}
+use Rattle.pws_mark.specs.States.{Open, Outer}
+use Rattle.pws_mark.specs.Tokens.{is_white, is_gap, is_name, is_piece, is_value_char, is_quote, is_attribute}
 use Rattle.pws_mark.specs.declared.modes.Declaring.{Declaring}
 use Rattle.pws_mark.specs.declared.modes.Declaring.TheVariants as declaring
 use Rattle.pws_mark.specs.declared.modes.Literal.{Literal}
@@ -27,7 +24,7 @@ use Rattle.pws_mark.specs.declared.modes.Reference.{Reference}
 use Rattle.pws_mark.specs.declared.modes.Region.{Region}
 use Rattle.pws_mark.specs.declared.modes.Region.TheVariants as region_is
 use Rattle.pws_mark.proofs.Following.{marks_behind}
-use Rattle.pws_mark.proofs.Standing.{Head, Context, Before, Inside, Behind, Frame, LawfulContext, Agrees, At, written, names_of, frame_names, is_inside, may_open, innermost, Reaches}
+use Rattle.pws_mark.proofs.Standing.{Context, Before, Inside, Behind, LawfulContext, Agrees, At, written, names_of, frame_names, is_inside, may_open, innermost}
 use Rattle.pws_mark.proofs.StandingTokens.{NameSoFar, RefHolds, CommentHolds, SectionHolds}
 
 -- so many of ]] stand before what comes

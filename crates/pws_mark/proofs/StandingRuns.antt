@@ -1,7 +1,7 @@
 -- What was read stands, wherever the reader is.
-use Rattle.std.proofs.Common.{◌≡◌, ℕ, ◌+◌, true, List, [], ◌∷◌, ◌++◌, length, refl, ap, subst, sym, ◌∙◌, append_assoc, append-nil, Option, Some, None}
+use Rattle.std.proofs.Common.{◌≡◌, ℕ, ◌+◌, true, List, [], ◌∷◌, ◌++◌, length, refl, subst, sym, append_assoc, append-nil, Option, Some, None}
 use Rattle.std.specs.Prelude.{option_map, encode_utf8}
-use Rattle.pws_mark.specs.Scan.{next, step, run, then_run, start, outside}
+use Rattle.pws_mark.specs.Scan.{next, run, then_run, start, outside}
 use Rattle.pws_mark.specs.States.{Outer, State}
 use Rattle.pws_mark.specs.declared.modes.Mode.{Mode}
 use Rattle.pws_mark.specs.declared.modes.Mode.TheVariants as mode

@@ -1,14 +1,12 @@
 -- What was read goes on with each character: in content, comments and CDATA sections.
-use Rattle.std.proofs.Common.{◌≡◌, ◌⊎◌, inl, inr, ℕ, zero, suc, ◌+◌, ◌-◌, ◌≤◌, ◌<◌, Bool, true, false, not, ◌&&◌, ◌||◌, List, [], ◌∷◌, ◌++◌, map, take, drop, replicate, length, refl, ap, subst, sym, ◌∙◌, arith, add-one, length-append, append_assoc, append-nil, Option, Some, None}
-use Rattle.std.specs.Prelude.{◌==◌, option_map, if◌then◌else◌, IsTrue, codes}
-use Rattle.std.specs.List.{list_all, flat_map}
-use Rattle.std.proofs.lemmas.Bool.{and_parts, and_from, and_right, not-true, not_from_false, eqb-true, eqb-false, eq-eqb, cases_lt}
-use Rattle.pws_tree.specs.Characters.{is_xml_char, is_name_start}
-use Rattle.pws_mark.specs.Bindings.{is_char, piece_char}
+use Rattle.std.proofs.Common.{◌≡◌, ◌⊎◌, inl, inr, ℕ, zero, suc, ◌+◌, ◌-◌, ◌≤◌, ◌<◌, Bool, true, false, not, ◌&&◌, List, [], ◌∷◌, ◌++◌, take, replicate, refl, ap, subst, sym, ◌∙◌, arith, add-one, append_assoc, append-nil, Option, Some, None}
+use Rattle.std.specs.Prelude.{◌==◌, if◌then◌else◌}
+use Rattle.std.proofs.lemmas.Bool.{and_parts, and_from, and_right, not-true, not_from_false, eqb-true, eqb-false, cases_lt}
+use Rattle.pws_tree.specs.Characters.{is_xml_char}
+use Rattle.pws_mark.specs.Bindings.{is_char}
 use Rattle.pws_mark.specs.Documents.{Piece, Char, Entity, Decimal, Hexadecimal, Content, Nothing, Text, Section, Comment, section_start, section_end, comment_start, comment_end}
-use Rattle.pws_mark.specs.Grammar.{is_misc}
 use Rattle.pws_mark.specs.Meaning.{char_text}
-use Rattle.pws_mark.specs.Scan.{next, stays, to, either, in_text, region, content_step, opened_step, bang_step, comment_step, section_word, section_word_step, section_step, brackets_taken, marks_after, text_bytes, tag_begins, reference_step, has_at}
+use Rattle.pws_mark.specs.Scan.{next, stays, to, either, in_text, region, content_step, bang_step, section_word, brackets_taken, marks_after, text_bytes, reference_step, has_at}
 use Rattle.pws_mark.specs.Spelling.{write_piece, write_content}
 use Rattle.pws_mark.specs.States.{Open, Outer, taken, taken_in}
 use Rattle.pws_mark.specs.TokenLaws.{brackets_behind}
@@ -16,15 +14,14 @@ use Rattle.pws_mark.specs.Tokens.{is_white, is_piece, is_text_char, is_section, 
 use Rattle.pws_mark.specs.declared.modes.Mode.{Mode}
 use Rattle.pws_mark.specs.declared.modes.Mode.TheVariants as mode
 use Rattle.pws_mark.specs.declared.modes.Reference.{Reference}
-use Rattle.pws_mark.specs.declared.modes.Reference.TheVariants as reference
 use Rattle.pws_mark.specs.declared.modes.ReferenceStep.{ReferenceStep}
 use Rattle.pws_mark.specs.declared.modes.ReferenceStep.TheVariants as stepped
 use Rattle.pws_mark.specs.declared.modes.Region.{Region}
 use Rattle.pws_mark.specs.declared.modes.Region.TheVariants as region_is
 use Rattle.pws_mark.proofs.Following.{marks_behind}
-use Rattle.pws_mark.proofs.Standing.{Head, Context, Before, Inside, Behind, Frame, LawfulContext, Agrees, At, written, names_of, frame_names, is_inside, may_open, join_content, marks_join, lawful_from, with_content, written_with, MayStand, lawful_with, agrees_with}
-use Rattle.pws_mark.proofs.StandingTokens.{which, RefHolds, ref_goes, ref_done, IsRef, CommentHolds, SectionHolds, comment_none, comment_dashes, comment_char, comment_whole, section_none, section_bracket, section_third, section_char, section_whole, name_begins}
-use Rattle.pws_mark.proofs.StandingModes.{InContent, MarksAre, InTextReference, InComment, InSectionWord, InSection, Stands, StandsIn, at_more, at_turned, region_of, region_agrees, InTagName, InEndName}
+use Rattle.pws_mark.proofs.Standing.{Context, Before, Inside, Behind, Agrees, At, written, names_of, is_inside, marks_join, with_content, written_with, MayStand, lawful_with, agrees_with}
+use Rattle.pws_mark.proofs.StandingTokens.{which, ref_goes, ref_done, CommentHolds, SectionHolds, comment_none, comment_dashes, comment_char, comment_whole, section_none, section_bracket, section_third, section_char, section_whole}
+use Rattle.pws_mark.proofs.StandingModes.{InContent, MarksAre, InTextReference, InComment, InSectionWord, InSection, Stands, StandsIn, at_more, at_turned, region_of, region_agrees}
 use Rattle.pws_mark.proofs.TakesPieces.{same_either_way}
 use Rattle.pws_mark.proofs.TakesReferences.{behind_mark, is_reference}
 

@@ -1,31 +1,23 @@
 -- What was read goes on with each character: in tags.
-use Rattle.std.proofs.Common.{◌≡◌, ◌⊎◌, inl, inr, ℕ, zero, suc, ◌+◌, ◌-◌, ◌≤◌, ◌<◌, Bool, true, false, not, ◌&&◌, ◌||◌, List, [], ◌∷◌, ◌++◌, map, take, drop, length, refl, ap, subst, sym, ◌∙◌, arith, add-one, length-append, append_assoc, append-nil, Option, Some, None, slice_get}
-use Rattle.std.specs.Prelude.{◌==◌, option_map, if◌then◌else◌, IsTrue}
+use Rattle.std.proofs.Common.{◌≡◌, inl, inr, ℕ, Bool, true, false, ◌&&◌, List, [], ◌∷◌, ◌++◌, refl, ap, subst, sym, ◌∙◌, append_assoc, append-nil, Some}
+use Rattle.std.specs.Prelude.{◌==◌}
 use Rattle.std.specs.List.{list_all, flat_map}
-use Rattle.std.proofs.lemmas.Bool.{and_parts, and_from, not-true, eqb-true, eqb-false, eq-eqb, cases_lt}
+use Rattle.std.proofs.lemmas.Bool.{and_parts, and_from, eqb-true}
 use Rattle.std.proofs.lemmas.List.Folds.{list_all-append}
 use Rattle.pws_tree.specs.Characters.{is_name_start, is_name_char}
-use Rattle.pws_mark.specs.Documents.{Piece, Char, Entity, Decimal, Hexadecimal, Attribute, Tag}
+use Rattle.pws_mark.specs.Documents.{Attribute, Tag}
 use Rattle.pws_mark.specs.Grammar.{is_tag}
-use Rattle.pws_mark.specs.Scan.{next, stays, to, either, in_value, region, opened_step, tag_begins, tag_step, tag_name_step, in_tag_step, attribute_name_step, before_equals_step, after_equals_step, value_step, value_with, value_with_reference, with_attribute, end_name_step, end_gap_step, reference_step, has_at}
-use Rattle.pws_mark.specs.Spelling.{write_piece, write_attribute, write_tag}
-use Rattle.pws_mark.specs.States.{Open, Outer, started, hollowed, ended, spoiled, is_empty}
-use Rattle.pws_mark.specs.Tokens.{is_white, is_gap, is_name, is_piece, is_value_char, is_quote, is_attribute}
+use Rattle.pws_mark.specs.Scan.{next, tag_step}
+use Rattle.pws_mark.specs.Spelling.{write_attribute}
+use Rattle.pws_mark.specs.States.{Open, Outer, started, hollowed, spoiled, is_empty}
+use Rattle.pws_mark.specs.Tokens.{is_white, is_gap, is_name, is_quote, is_attribute}
 use Rattle.pws_mark.specs.declared.modes.Mode.{Mode}
 use Rattle.pws_mark.specs.declared.modes.Mode.TheVariants as mode
 use Rattle.pws_mark.specs.declared.modes.ReadName.{ReadName}
 use Rattle.pws_mark.specs.declared.modes.ReadTag.{ReadTag}
-use Rattle.pws_mark.specs.declared.modes.ReadValue.{ReadValue}
-use Rattle.pws_mark.specs.declared.modes.Reference.{Reference}
-use Rattle.pws_mark.specs.declared.modes.Reference.TheVariants as reference
-use Rattle.pws_mark.specs.declared.modes.ReferenceStep.{ReferenceStep}
-use Rattle.pws_mark.specs.declared.modes.ReferenceStep.TheVariants as stepped
-use Rattle.pws_mark.specs.declared.modes.Region.{Region}
-use Rattle.pws_mark.specs.declared.modes.Region.TheVariants as region_is
-use Rattle.pws_mark.proofs.Following.{marks_behind}
-use Rattle.pws_mark.proofs.Standing.{Head, Context, Before, Inside, Behind, Frame, LawfulContext, Agrees, At, written, names_of, frame_names, is_inside, may_open, innermost, marks_join, with_content, opened_in, written_opened, lawful_opened, hollowed_in, written_hollowed, lawful_hollowed, closed_in_context, written_closed, lawful_closed}
-use Rattle.pws_mark.proofs.StandingTokens.{which, NameSoFar, name_begins, name_grows, name_colon, name_starts, RefHolds, ref_goes, ref_done, IsRef}
-use Rattle.pws_mark.proofs.StandingModes.{InContent, MarksAre, Stands, StandsIn, at_more, at_turned, region_of, region_agrees, tag_front, InTagName, InTheTag, InTag, InSlash, InAttributeName, InBeforeEquals, InAfterEquals, InValue, InValueReference, InEndName, InEndGap}
+use Rattle.pws_mark.proofs.Standing.{Context, Before, Inside, Behind, Agrees, written, names_of, may_open, marks_join, opened_in, written_opened, lawful_opened, hollowed_in, written_hollowed, lawful_hollowed}
+use Rattle.pws_mark.proofs.StandingTokens.{which, NameSoFar, name_begins, name_grows, name_colon, name_starts}
+use Rattle.pws_mark.proofs.StandingModes.{InContent, MarksAre, Stands, at_more, at_turned, tag_front, InTagName, InTheTag, InTag, InSlash, InAttributeName, InBeforeEquals, InAfterEquals}
 use Rattle.pws_mark.proofs.StandingSteps.{which_stays, never}
 
 -- one character more in a tag

@@ -1,15 +1,14 @@
 -- What was read of a name, of a reference, of a comment or of a CDATA section.
-use Rattle.std.proofs.Common.{◌≡◌, ◌⊎◌, inl, inr, ℕ, zero, suc, ◌+◌, ◌≤◌, ◌<◌, Bool, true, false, not, ◌&&◌, ◌||◌, List, [], ◌∷◌, ◌++◌, map, replicate, length, refl, ap, subst, sym, ◌∙◌, arith, length-append, append_assoc, append-nil, add-one, Option, Some, None}
-use Rattle.std.specs.Prelude.{◌==◌, nat_eq, if◌then◌else◌, IsTrue}
+use Rattle.std.proofs.Common.{◌≡◌, ◌⊎◌, inl, inr, ℕ, zero, suc, ◌+◌, ◌<◌, Bool, true, false, not, ◌&&◌, List, [], ◌∷◌, ◌++◌, replicate, refl, ap, subst, sym, ◌∙◌, arith, append_assoc, append-nil, add-one, Option, Some, None}
+use Rattle.std.specs.Prelude.{◌==◌, nat_eq, if◌then◌else◌}
 use Rattle.std.specs.List.{list_all, starts_with}
 use Rattle.std.specs.Str.{bytes_eq}
-use Rattle.std.proofs.lemmas.Bool.{and_parts, and_from, and_left, and_right, or_from, not-true, not_from_false, eqb-true, eqb-false, eq-eqb, ne_eqb, cases_lt}
+use Rattle.std.proofs.lemmas.Bool.{and_parts, and_from, and_left, and_right, or_from, not_from_false, eqb-true}
 use Rattle.std.proofs.lemmas.List.Folds.{list_all-append}
 use Rattle.pws_tree.specs.Characters.{is_xml_char, xml_ranges, is_name_start, is_name_char, name_start_ranges, name_more_ranges}
-use Rattle.pws_mark.specs.Bindings.{char_at, entity_char}
 use Rattle.pws_mark.specs.Digits.{is_digit, is_hexadecimal}
-use Rattle.pws_mark.specs.Documents.{Piece, Char, Entity, Decimal, Hexadecimal, section_end}
-use Rattle.pws_mark.specs.Scan.{reference_step, number_step, marks_after}
+use Rattle.pws_mark.specs.Documents.{Piece, Entity, Decimal, Hexadecimal, section_end}
+use Rattle.pws_mark.specs.Scan.{reference_step, marks_after}
 use Rattle.pws_mark.specs.Tokens.{is_name, goes_on, is_piece, is_section, is_comment, has_within}
 use Rattle.pws_mark.specs.declared.modes.Reference.{Reference}
 use Rattle.pws_mark.specs.declared.modes.Reference.TheVariants as reference

@@ -1,18 +1,16 @@
 -- The reader takes a comment.
-use Rattle.std.proofs.Common.{◌≡◌, ℕ, zero, suc, ◌+◌, ◌<◌, replicate, ◌==◌, Bool, true, false, not, ◌&&◌, ◌||◌, List, [], ◌∷◌, ◌++◌, length, refl, ap, subst, sym, ◌∙◌, arith, length-append, append_assoc, Option, Some, None}
-use Rattle.std.specs.Prelude.{encode_utf8, encode_utf8_all, if◌then◌else◌, IsTrue, nat_eq}
+use Rattle.std.proofs.Common.{◌≡◌, ℕ, zero, suc, ◌+◌, ◌<◌, replicate, ◌==◌, Bool, true, false, not, List, [], ◌∷◌, ◌++◌, length, refl, ap, subst, arith, length-append, Some}
+use Rattle.std.specs.Prelude.{encode_utf8, encode_utf8_all, if◌then◌else◌, nat_eq}
 use Rattle.std.specs.List.{list_all, starts_with}
-use Rattle.std.proofs.lemmas.Bool.{eqb-true, eqb-false, eq-eqb, or_parts, and_parts, not-true}
+use Rattle.std.proofs.lemmas.Bool.{eqb-true, or_parts, and_parts, not-true}
 use lib.Utf8.{encode}
 use Rattle.pws_tree.specs.Characters.{is_xml_char, xml_ranges, name_start_ranges}
 use Rattle.pws_mark.specs.Documents.{comment_start, comment_end}
-use Rattle.pws_mark.specs.Faults.{Fault}
-use Rattle.pws_mark.specs.Noted.{noted, noted_at, finds}
-use Rattle.pws_mark.specs.Scan.{step, run, next, marks_after}
-use Rattle.pws_mark.specs.States.{Open, Outer, State}
+use Rattle.pws_mark.specs.Noted.{noted, finds}
+use Rattle.pws_mark.specs.Scan.{run, next, marks_after}
+use Rattle.pws_mark.specs.States.{Open, Outer}
 use Rattle.pws_mark.specs.TokenLaws.{Goes, state, CommentsAreTaken}
-use Rattle.pws_mark.specs.Tokens.{is_comment, has_within}
-use Rattle.pws_mark.specs.declared.modes.Mode.{Mode}
+use Rattle.pws_mark.specs.Tokens.{has_within}
 use Rattle.pws_mark.specs.declared.modes.Mode.TheVariants as mode
 use Rattle.pws_mark.proofs.Going.{goes_on_to, goes_at}
 

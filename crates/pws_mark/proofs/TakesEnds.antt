@@ -1,19 +1,17 @@
 -- The reader takes an end tag.
-use Rattle.std.proofs.Common.{◌≡◌, ℕ, zero, suc, ◌+◌, Bool, true, false, not, ◌&&◌, List, [], ◌∷◌, ◌++◌, length, refl, ap, subst, sym, ◌∙◌, arith, length-append, append_assoc, append-nil, add-one, Option, Some, None, slice_get}
-use Rattle.std.specs.Prelude.{◌==◌, encode_utf8, encode_utf8_all, if◌then◌else◌, IsTrue}
+use Rattle.std.proofs.Common.{◌≡◌, ℕ, ◌+◌, Bool, true, false, not, ◌&&◌, List, [], ◌∷◌, ◌++◌, length, refl, ap, subst, sym, ◌∙◌, arith, length-append, append_assoc, append-nil, Some, slice_get}
+use Rattle.std.specs.Prelude.{◌==◌, encode_utf8, encode_utf8_all, if◌then◌else◌}
 use Rattle.std.specs.List.{list_all}
-use Rattle.std.proofs.lemmas.Bool.{and_parts, and_from, not-true, not_from_false, eq-eqb, eqb-true}
+use Rattle.std.proofs.lemmas.Bool.{and_parts, and_from, not_from_false, eq-eqb, eqb-true}
 use Rattle.std.proofs.lemmas.Option.{slice_get_past}
 use lib.Utf8.{encode}
-use Rattle.pws_tree.specs.Characters.{is_xml_char, is_name_start, is_name_char, xml_ranges, name_start_ranges, name_more_ranges}
-use Rattle.pws_mark.specs.Faults.{Fault}
-use Rattle.pws_mark.specs.Noted.{noted, noted_at, finds, end_finds}
-use Rattle.pws_mark.specs.Scan.{step, run, next, has_at}
-use Rattle.pws_mark.specs.States.{Open, Outer, State, ended}
+use Rattle.pws_tree.specs.Characters.{is_name_start, is_name_char, xml_ranges, name_start_ranges, name_more_ranges}
+use Rattle.pws_mark.specs.Noted.{noted, finds, end_finds}
+use Rattle.pws_mark.specs.Scan.{run, next, has_at}
+use Rattle.pws_mark.specs.States.{Open, Outer, ended}
 use Rattle.pws_mark.specs.TokenLaws.{Goes, state, ending, EndsAreTaken}
 use Rattle.pws_mark.specs.Tokens.{is_white, is_name, goes_on}
 use Rattle.pws_mark.specs.declared.modes.Event.{Event}
-use Rattle.pws_mark.specs.declared.modes.Mode.{Mode}
 use Rattle.pws_mark.specs.declared.modes.Mode.TheVariants as mode
 use Rattle.pws_mark.proofs.Going.{goes_on_to, goes_at, goes_until, goes_once, goes_quietly, goes_round, goes_nowhere, other}
 

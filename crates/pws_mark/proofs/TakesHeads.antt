@@ -1,20 +1,18 @@
 -- The reader takes the head of a document.
-use Rattle.std.proofs.Common.{◌≡◌, ◌⊎◌, inl, inr, ℕ, zero, suc, ◌+◌, Bool, true, false, not, ◌&&◌, ◌||◌, List, [], ◌∷◌, ◌++◌, map, length, refl, ap, subst, sym, ◌∙◌, arith, length-append, append_assoc, append-nil, Option, Some, None}
-use Rattle.std.specs.Prelude.{◌==◌, option_map, encode_utf8, encode_utf8_all, if◌then◌else◌, IsTrue, codes}
+use Rattle.std.proofs.Common.{◌≡◌, ◌⊎◌, inl, inr, ℕ, ◌+◌, Bool, true, false, not, ◌&&◌, ◌||◌, List, [], ◌∷◌, ◌++◌, map, length, refl, ap, subst, sym, ◌∙◌, arith, length-append, append_assoc, append-nil, Option, Some, None}
+use Rattle.std.specs.Prelude.{◌==◌, option_map, encode_utf8, encode_utf8_all, codes}
 use Rattle.std.specs.List.{list_all}
 use Rattle.std.specs.Str.{bytes_eq, str_to_ascii_lowercase}
 use Rattle.std.proofs.lemmas.Bool.{and_parts, not-true, eqb-true, eq-eqb}
 use Rattle.std.proofs.lemmas.Slice.Eq.{bytes_eq-Decides}
-use Rattle.std.proofs.lemmas.Str.{encodes-append}
 use lib.Utf8.{encode}
-use Rattle.pws_tree.specs.Characters.{name_start_ranges, name_more_ranges}
-use Rattle.pws_mark.specs.Documents.{Pseudo, Declaration, Document, spell_pseudo, spell_optional, spell_declaration, spell_head, byte_order_mark}
-use Rattle.pws_mark.specs.Faults.{Fault}
+use Rattle.pws_tree.specs.Characters.{name_start_ranges}
+use Rattle.pws_mark.specs.Documents.{Pseudo, Declaration, spell_pseudo, spell_optional, spell_declaration, byte_order_mark}
 use Rattle.pws_mark.specs.Grammar.{is_pseudo, is_optional, is_declaration}
 use Rattle.pws_mark.specs.Noted.{noted, noted_at, finds, then_noted}
-use Rattle.pws_mark.specs.Scan.{next, run, then_run, step, start, outside, declaring_step, in_declaration, part_word, literal_word, part_behind, value_begins, gap_step, as_compared, has_at}
-use Rattle.pws_mark.specs.Spelling.{write_pseudo, write_optional, write_declaration, write_head}
-use Rattle.pws_mark.specs.States.{Outer, State}
+use Rattle.pws_mark.specs.Scan.{next, run, then_run, step, outside, declaring_step, part_word, literal_word, part_behind, value_begins, as_compared}
+use Rattle.pws_mark.specs.Spelling.{write_pseudo, write_optional, write_declaration}
+use Rattle.pws_mark.specs.States.{State}
 use Rattle.pws_mark.specs.TokenLaws.{Goes, state, may_follow, HeadIsTaken, HeadsAreTaken}
 use Rattle.pws_mark.specs.Tokens.{is_white, is_gap, is_quote}
 use Rattle.pws_mark.specs.declared.modes.Declaring.{Declaring}
@@ -25,7 +23,7 @@ use Rattle.pws_mark.specs.declared.modes.Mode.{Mode}
 use Rattle.pws_mark.specs.declared.modes.Mode.TheVariants as mode
 use Rattle.pws_mark.specs.declared.modes.Part.{Part}
 use Rattle.pws_mark.specs.declared.modes.Part.TheVariants as part
-use Rattle.pws_mark.proofs.Going.{goes_on_to, goes_at, goes_once, goes_quietly, goes_round, goes_nowhere, run_append, noted_append}
+use Rattle.pws_mark.proofs.Going.{goes_on_to, goes_at, goes_once, goes_round, goes_nowhere, run_append, noted_append}
 use Rattle.pws_mark.proofs.TakesEnds.{has_behind, has_none_behind}
 use Rattle.pws_mark.proofs.TakesTags.{white_is, quote_is}
 

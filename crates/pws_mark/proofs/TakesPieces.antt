@@ -1,29 +1,26 @@
 -- The reader takes the pieces of content.
-use Rattle.std.proofs.Common.{◌≡◌, ℕ, ◌+◌, Bool, true, false, not, ◌&&◌, List, [], ◌∷◌, ◌++◌, length, refl, ap, subst, sym, ◌∙◌, arith, length-append, Option, Some, None}
-use Rattle.std.specs.Prelude.{◌==◌, is_none, encode_utf8, encode_utf8_all, if◌then◌else◌, IsTrue}
-use Rattle.std.proofs.lemmas.Bool.{and_from, not_from_false, ne_eqb, eqb-true, eqb-false, eq-eqb}
+use Rattle.std.proofs.Common.{◌≡◌, ℕ, ◌+◌, Bool, true, false, ◌&&◌, List, [], ◌∷◌, length, refl, ap, subst, sym, ◌∙◌, arith, Some}
+use Rattle.std.specs.Prelude.{◌==◌, is_none, encode_utf8_all, if◌then◌else◌}
+use Rattle.std.proofs.lemmas.Bool.{ne_eqb, eqb-true, eqb-false, eq-eqb}
 use Rattle.std.proofs.lemmas.Str.{encodes-append}
 use lib.Utf8.{encode}
 use Rattle.pws_tree.specs.Characters.{xml_ranges}
-use Rattle.pws_mark.specs.Bindings.{piece_char, is_char}
+use Rattle.pws_mark.specs.Bindings.{piece_char}
 use Rattle.pws_mark.specs.Documents.{Piece, Char, Entity, Decimal, Hexadecimal, spell_piece}
-use Rattle.pws_mark.specs.Faults.{Fault, if_wrong, piece_faults}
+use Rattle.pws_mark.specs.Faults.{if_wrong, piece_faults}
 use Rattle.pws_mark.specs.Meaning.{char_text}
 use Rattle.pws_mark.specs.Noted.{finds, if_found}
 use Rattle.pws_mark.specs.Scan.{next, region, text_bytes, marks_after, content_step}
-use Rattle.pws_mark.specs.Spelling.{write_piece}
-use Rattle.pws_mark.specs.States.{Outer, State, taken}
-use Rattle.pws_mark.specs.TokenLaws.{Goes, state, ending, brackets_behind, piece_bytes, PiecesAreTaken}
+use Rattle.pws_mark.specs.States.{Outer, taken}
+use Rattle.pws_mark.specs.TokenLaws.{Goes, state, ending, PiecesAreTaken}
 use Rattle.pws_mark.specs.Tokens.{is_piece, is_text_char}
 use Rattle.pws_mark.specs.declared.errors.MarkKind.{MarkKind}
 use Rattle.pws_mark.specs.declared.errors.MarkKind.TheVariants as kind
-use Rattle.pws_mark.specs.declared.modes.Mode.{Mode}
 use Rattle.pws_mark.specs.declared.modes.Mode.TheVariants as mode
-use Rattle.pws_mark.specs.declared.modes.Reference.{Reference}
 use Rattle.pws_mark.specs.declared.modes.Reference.TheVariants as reference
 use Rattle.pws_mark.specs.declared.modes.Region.TheVariants as region_is
-use Rattle.pws_mark.proofs.Going.{goes_on_to, goes_at, goes_until, goes_once, goes_before}
-use Rattle.pws_mark.proofs.TakesReferences.{GoesOn, Completes, behind_mark, is_reference, reference_goes}
+use Rattle.pws_mark.proofs.Going.{goes_until, goes_once, goes_before}
+use Rattle.pws_mark.proofs.TakesReferences.{behind_mark, is_reference, reference_goes}
 
 pub same_either_way : (a b : ℕ) → (a == b) ≡ (b == a)
 same_either_way a b = by (b == a) (eqb-true b a) (eqb-false b a)

@@ -1,28 +1,25 @@
 -- The reader takes references.
-use Rattle.std.proofs.Common.{◌≡◌, ◌⊎◌, inl, inr, ℕ, zero, suc, ◌+◌, ◌*◌, ◌≤◌, ◌<◌, Bool, true, false, not, ◌&&◌, List, [], ◌∷◌, ◌++◌, fold, length, map, refl, ap, subst, sym, ◌∙◌, arith, length-append, append_assoc, append-nil, Option, Some, None}
-use Rattle.std.specs.Prelude.{◌==◌, nat_le, is_none, encode_utf8, encode_utf8_all, if◌then◌else◌, IsTrue}
+use Rattle.std.proofs.Common.{◌≡◌, ◌⊎◌, inl, inr, ℕ, ◌+◌, ◌*◌, ◌≤◌, ◌<◌, Bool, true, false, ◌&&◌, List, [], ◌∷◌, ◌++◌, fold, length, refl, ap, sym, ◌∙◌, arith, Option, Some, None}
+use Rattle.std.specs.Prelude.{nat_le, is_none, encode_utf8, encode_utf8_all}
 use Rattle.std.specs.List.{list_all}
-use Rattle.std.proofs.lemmas.Bool.{and_parts, and_from, and_right, or_from, not-true, eq-eqb, eqb-true, le-leb, lt-leb, cases_lt}
+use Rattle.std.proofs.lemmas.Bool.{and_parts, and_right, or_from, le-leb, lt-leb, cases_lt}
 use Rattle.std.proofs.Math.Nat.{le-mul_of_pos_right}
 use lib.Utf8.{encode}
-use Rattle.pws_tree.specs.Characters.{is_xml_char, is_name_start, is_name_char, xml_ranges, name_start_ranges, name_more_ranges}
+use Rattle.pws_tree.specs.Characters.{is_xml_char, is_name_start, xml_ranges, name_start_ranges, name_more_ranges}
 use Rattle.pws_mark.specs.Bindings.{char_at, entity_char, number_of, piece_char}
 use Rattle.pws_mark.specs.Digits.{is_digit, is_hexadecimal, digit_number}
-use Rattle.pws_mark.specs.Documents.{Piece, Char, Entity, Decimal, Hexadecimal, spell_piece}
-use Rattle.pws_mark.specs.Faults.{Fault, piece_faults}
+use Rattle.pws_mark.specs.Documents.{Piece, Char, Entity, Decimal, Hexadecimal}
 use Rattle.pws_mark.specs.Noted.{finds, if_found}
 use Rattle.pws_mark.specs.Scan.{next, reference_step, number_step, capped}
-use Rattle.pws_mark.specs.Spelling.{write_piece}
-use Rattle.pws_mark.specs.States.{Outer, State}
+use Rattle.pws_mark.specs.States.{Outer}
 use Rattle.pws_mark.specs.TokenLaws.{Goes, state, ending}
 use Rattle.pws_mark.specs.Tokens.{is_name, goes_on, is_piece}
-use Rattle.pws_mark.specs.declared.errors.MarkKind.{MarkKind}
 use Rattle.pws_mark.specs.declared.errors.MarkKind.TheVariants as kind
 use Rattle.pws_mark.specs.declared.modes.Mode.{Mode}
 use Rattle.pws_mark.specs.declared.modes.Reference.{Reference}
 use Rattle.pws_mark.specs.declared.modes.Reference.TheVariants as reference
 use Rattle.pws_mark.specs.declared.modes.ReferenceStep.TheVariants as stepped
-use Rattle.pws_mark.proofs.Going.{goes_on_to, goes_at, goes_until, goes_once, goes_quietly, goes_before, goes_over, goes_names, goes_nowhere, other}
+use Rattle.pws_mark.proofs.Going.{goes_at, goes_once, goes_quietly, goes_before, goes_over, goes_names, goes_nowhere}
 
 -- a reference goes on in a mode that keeps what was read of it
 abbrev pub GoesOn : (Reference → Mode) → Outer → Type 0

@@ -1,21 +1,19 @@
 -- The reader takes a CDATA section.
-use Rattle.std.proofs.Common.{◌≡◌, ℕ, zero, suc, ◌+◌, ◌-◌, ◌≤◌, ◌<◌, Bool, true, false, not, ◌&&◌, ◌||◌, List, [], ◌∷◌, ◌++◌, replicate, length, refl, ap, subst, sym, ◌∙◌, arith, length-append, append_assoc, Option, Some, None}
-use Rattle.std.specs.Prelude.{◌==◌, nat_eq, encode_utf8, encode_utf8_all, if◌then◌else◌, IsTrue}
+use Rattle.std.proofs.Common.{◌≡◌, ℕ, zero, suc, ◌+◌, ◌-◌, ◌<◌, Bool, true, false, not, ◌&&◌, List, [], ◌∷◌, ◌++◌, replicate, length, refl, ap, subst, sym, arith, length-append, Some}
+use Rattle.std.specs.Prelude.{◌==◌, nat_eq, encode_utf8, encode_utf8_all}
 use Rattle.std.specs.List.{list_all, starts_with}
-use Rattle.std.proofs.lemmas.Bool.{and_parts, or_parts, not-true, eqb-true, eq-eqb}
+use Rattle.std.proofs.lemmas.Bool.{and_parts, or_parts, not-true, eqb-true}
 use lib.Utf8.{encode}
 use Rattle.pws_tree.specs.Characters.{is_xml_char, xml_ranges, name_start_ranges}
 use Rattle.pws_mark.specs.Documents.{section_start, section_end}
-use Rattle.pws_mark.specs.Faults.{Fault}
 use Rattle.pws_mark.specs.Noted.{finds, noted}
 use Rattle.pws_mark.specs.Scan.{next, run, region, text_bytes, stays, content_step, opened_step, bang_step, section_word, brackets_taken}
-use Rattle.pws_mark.specs.States.{Outer, State, taken}
+use Rattle.pws_mark.specs.States.{Outer, taken}
 use Rattle.pws_mark.specs.TokenLaws.{Goes, state, all_taken, SectionsAreTaken}
-use Rattle.pws_mark.specs.Tokens.{is_section, has_within}
-use Rattle.pws_mark.specs.declared.modes.Mode.{Mode}
+use Rattle.pws_mark.specs.Tokens.{has_within}
 use Rattle.pws_mark.specs.declared.modes.Mode.TheVariants as mode
 use Rattle.pws_mark.specs.declared.modes.Region.TheVariants as region_is
-use Rattle.pws_mark.proofs.Going.{goes_on_to, goes_at, goes_once, goes_quietly, goes_nowhere}
+use Rattle.pws_mark.proofs.Going.{goes_on_to, goes_at, goes_once}
 
 section_word_goes : (o : Outer) (at : ℕ) → Goes (state at (mode.SectionWord 0) o) (67 ∷ 68 ∷ 65 ∷ 84 ∷ 65 ∷ 91 ∷ []) (state (at + 6) (mode.Section 0 false) o) []
 unfolding next finds encode section_word run noted

@@ -1,17 +1,16 @@
 -- The reader takes start tags and empty tags.
-use Rattle.std.proofs.Common.{◌≡◌, ◌≢◌, ℕ, ◌+◌, Bool, true, false, not, ◌&&◌, ◌||◌, List, [], ◌∷◌, ◌++◌, map, length, refl, ap, subst, sym, ◌∙◌, arith, length-append, append_assoc, append-nil, Option, Some, None}
-use Rattle.std.specs.Prelude.{◌==◌, nat_le, encode_utf8, encode_utf8_all, if◌then◌else◌, IsTrue}
+use Rattle.std.proofs.Common.{◌≡◌, ◌≢◌, ℕ, ◌+◌, Bool, true, false, ◌&&◌, ◌||◌, List, [], ◌∷◌, ◌++◌, length, refl, ap, subst, sym, ◌∙◌, arith, length-append, append_assoc, append-nil, Option, Some, None}
+use Rattle.std.specs.Prelude.{◌==◌, nat_le, encode_utf8, encode_utf8_all}
 use Rattle.std.specs.List.{list_all, flat_map}
-use Rattle.std.specs.Str.{bytes_eq}
-use Rattle.std.proofs.lemmas.Bool.{and_parts, and_from, not-true, not_from_false, ne_eqb, eqb-true, eqb-false, eq-eqb}
+use Rattle.std.proofs.lemmas.Bool.{and_parts, eqb-true}
 use lib.Utf8.{encode}
 use Rattle.pws_tree.specs.Characters.{is_name_start, is_name_char, xml_ranges, name_start_ranges, name_more_ranges}
 use Rattle.pws_mark.specs.Bindings.{value_of}
 use Rattle.pws_mark.specs.Documents.{Piece, Attribute, Tag, spell_piece, spell_attribute, spell_tag}
-use Rattle.pws_mark.specs.Faults.{Fault, if_wrong, value_faults, depth_faults}
+use Rattle.pws_mark.specs.Faults.{Fault, value_faults, depth_faults}
 use Rattle.pws_mark.specs.Grammar.{is_tag}
-use Rattle.pws_mark.specs.Noted.{finds, if_found, start_finds, hollow_finds, depth_finds}
-use Rattle.pws_mark.specs.Scan.{next, region, opened_step, stays, tag_begins, with_attribute}
+use Rattle.pws_mark.specs.Noted.{finds, if_found, start_finds, hollow_finds}
+use Rattle.pws_mark.specs.Scan.{next, region, opened_step, stays, with_attribute}
 use Rattle.pws_mark.specs.Spelling.{write_piece, write_attribute, write_tag}
 use Rattle.pws_mark.specs.States.{Outer, State, started, hollowed}
 use Rattle.pws_mark.specs.TokenLaws.{Goes, state, ending, attributes_read, tag_read, values_faults, early_faults, StartsAreTaken, HollowsAreTaken}
@@ -25,7 +24,7 @@ use Rattle.pws_mark.specs.declared.modes.ReadTag.{ReadTag}
 use Rattle.pws_mark.specs.declared.modes.ReadValue.{ReadValue}
 use Rattle.pws_mark.specs.declared.modes.Region.{Region}
 use Rattle.pws_mark.specs.declared.modes.Region.TheVariants as region_is
-use Rattle.pws_mark.proofs.Going.{goes_on_to, goes_at, goes_until, goes_once, goes_quietly, goes_before, goes_names, goes_round, goes_nowhere, other}
+use Rattle.pws_mark.proofs.Going.{goes_on_to, goes_at, goes_once, goes_quietly, goes_names, goes_round, goes_nowhere, other}
 use Rattle.pws_mark.proofs.TakesPieces.{ending_found}
 use Rattle.pws_mark.proofs.TakesValues.{value_next, value_behind, same_quote, value_goes, value_read}
 

@@ -1,27 +1,24 @@
 -- The reader takes the values of attributes.
-use Rattle.std.proofs.Common.{◌≡◌, ℕ, ◌+◌, Bool, true, false, not, ◌&&◌, ◌||◌, List, [], ◌∷◌, ◌++◌, drop, length, refl, ap, subst, sym, ◌∙◌, arith, length-append, append_assoc, append-nil, Option, Some, None}
-use Rattle.std.specs.Prelude.{◌==◌, is_none, option_map, encode_utf8, encode_utf8_all, if◌then◌else◌, IsTrue}
+use Rattle.std.proofs.Common.{◌≡◌, ℕ, ◌+◌, Bool, true, false, ◌&&◌, ◌||◌, List, [], ◌∷◌, ◌++◌, drop, length, refl, ap, subst, sym, ◌∙◌, arith, length-append, append_assoc, append-nil, Option, Some, None}
+use Rattle.std.specs.Prelude.{◌==◌, is_none, option_map, encode_utf8, encode_utf8_all, if◌then◌else◌}
 use Rattle.std.specs.List.{list_all, flat_map}
-use Rattle.std.proofs.lemmas.Bool.{and_parts, and_from, not_from_false, ne_eqb, eqb-true, eqb-false, eq-eqb}
-use Rattle.std.proofs.lemmas.Str.{encodes-append}
+use Rattle.std.proofs.lemmas.Bool.{and_parts, eqb-true}
 use lib.Utf8.{encode}
 use Rattle.pws_tree.specs.Characters.{xml_ranges}
-use Rattle.pws_mark.specs.Bindings.{piece_char, is_char, first_is, put_before, value_of}
+use Rattle.pws_mark.specs.Bindings.{piece_char, first_is, put_before, value_of}
 use Rattle.pws_mark.specs.Documents.{Piece, Char, Entity, Decimal, Hexadecimal, spell_piece}
 use Rattle.pws_mark.specs.Faults.{Fault, piece_faults, value_faults}
 use Rattle.pws_mark.specs.Noted.{finds, if_found}
 use Rattle.pws_mark.specs.Scan.{next, value_with, value_with_reference, value_bytes}
 use Rattle.pws_mark.specs.Spelling.{write_piece}
-use Rattle.pws_mark.specs.States.{Outer, State}
-use Rattle.pws_mark.specs.TokenLaws.{Goes, state, ending}
-use Rattle.pws_mark.specs.Tokens.{is_piece, is_value_char, is_quote}
+use Rattle.pws_mark.specs.States.{Outer}
+use Rattle.pws_mark.specs.TokenLaws.{Goes, state}
+use Rattle.pws_mark.specs.Tokens.{is_piece, is_value_char}
 use Rattle.pws_mark.specs.declared.errors.MarkKind.TheVariants as kind
-use Rattle.pws_mark.specs.declared.modes.Mode.{Mode}
 use Rattle.pws_mark.specs.declared.modes.Mode.TheVariants as mode
 use Rattle.pws_mark.specs.declared.modes.ReadName.{ReadName}
 use Rattle.pws_mark.specs.declared.modes.ReadTag.{ReadTag}
 use Rattle.pws_mark.specs.declared.modes.ReadValue.{ReadValue}
-use Rattle.pws_mark.specs.declared.modes.Reference.{Reference}
 use Rattle.pws_mark.specs.declared.modes.Reference.TheVariants as reference
 use Rattle.pws_mark.proofs.Going.{goes_on_to, goes_at, goes_until, goes_once, goes_before, goes_nowhere}
 use Rattle.pws_mark.proofs.TakesPieces.{same_either_way, ending_found, reference_size}

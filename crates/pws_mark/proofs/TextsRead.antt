@@ -1,6 +1,6 @@
 -- What reading answers is what the reader finds, character by character.
-use Rattle.std.proofs.Common.{◌≡◌, ℕ, ◌+◌, ◌<◌, ◌≤◌, Bool, true, false, ◌&&◌, cond, List, [], ◌∷◌, ◌++◌, map, fold, length, refl, ap, sym, ◌∙◌, subst, arith, Option, Some, None, append-nil, append_assoc, length-append}
-use Rattle.std.specs.Prelude.{if◌then◌else◌, Ok, Err, chars, encode_utf8, encode_utf8_all}
+use Rattle.std.proofs.Common.{◌≡◌, ℕ, ◌+◌, ◌≤◌, Bool, true, false, cond, List, [], ◌∷◌, ◌++◌, map, fold, length, refl, ap, sym, ◌∙◌, subst, arith, Option, Some, None, append-nil, append_assoc, length-append}
+use Rattle.std.specs.Prelude.{Ok, Err, chars, encode_utf8, encode_utf8_all}
 use Rattle.std.specs.Str.{IsUtf8, all_scalars, is_utf8, bytes_eq}
 use Rattle.std.proofs.lemmas.Bool.{and_parts}
 use Rattle.std.proofs.lemmas.List.{map-append}
@@ -8,7 +8,6 @@ use Rattle.std.proofs.lemmas.List.Sums.{fold-append}
 use Rattle.std.proofs.lemmas.Str.{encodes-append, encodes-chars, is_utf8-from_IsUtf8, chars_past_char, chars-nil}
 use Rattle.pws_tree.specs.Trees.{Tree}
 use Rattle.pws_mark.specs.Causes.{IsCause, IsLeastCause}
-use Rattle.pws_mark.specs.Faults.{Fault}
 use Rattle.pws_mark.specs.Frames.{MayBuild}
 use Rattle.pws_mark.specs.Least.{error_of, comes_before, lower, lowered}
 use Rattle.pws_mark.specs.Noted.{finds, noted, noted_at, then_noted}
@@ -19,7 +18,7 @@ use Rattle.pws_mark.specs.Scan.{step, run, then_run, start, is_whole}
 use Rattle.pws_mark.specs.Scanning.{Scanned, Steps}
 use Rattle.pws_mark.specs.States.{State}
 use Rattle.pws_mark.specs.Stopping.{StandsAt}
-use Rattle.pws_mark.specs.Taken.{HasTaken, Scans, Stops}
+use Rattle.pws_mark.specs.Taken.{HasTaken, Stops}
 use Rattle.pws_mark.specs.declared.errors.MarkError.{MarkError}
 use Rattle.pws_mark.specs.declared.errors.MarkKind.{MarkKind}
 use Rattle.pws_mark.specs.declared.errors.MarkKind.TheVariants as kind

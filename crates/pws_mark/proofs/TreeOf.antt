@@ -1,25 +1,22 @@
 -- The tree of a text is the one that it means, and reading gives it.
-use Rattle.std.proofs.Common.{◌≡◌, ℕ, ◌<◌, ◌≤◌, ◌&&◌, Bool, true, false, cond, nat_le, List, [], ◌∷◌, length, take, map, Option, Some, None, Result, Ok, Err, refl, ap, subst, sym, ◌∙◌, arith}
-use Rattle.std.specs.Prelude.{IsTrue, Contains, encode_utf8_all, chars}
+use Rattle.std.proofs.Common.{◌≡◌, ℕ, ◌≤◌, ◌&&◌, Bool, true, false, cond, nat_le, List, [], ◌∷◌, length, take, map, Option, Some, None, Ok, Err, refl, ap, subst, sym, ◌∙◌, arith}
+use Rattle.std.specs.Prelude.{Contains, encode_utf8_all, chars}
 use Rattle.std.specs.Str.{IsUtf8, IsValidUpTo, is_utf8}
 use Rattle.std.proofs.lemmas.Bool.Decides.{nat_tests}
 use Rattle.std.proofs.lemmas.Str.{encodes-chars, scalars-chars, chars_from_encodes, is_utf8-from_IsUtf8, IsUtf8-from_is_utf8}
 use Rattle.pws_tree.specs.Trees.{Tree}
-use Rattle.pws_mark.specs.Causes.{IsCause, IsLeastCause}
-use Rattle.pws_mark.specs.Faults.{faults}
-use Rattle.pws_mark.specs.Meaning.{meaning}
+use Rattle.pws_mark.specs.Causes.{IsCause}
 use Rattle.pws_mark.specs.Noted.{noted}
 use Rattle.pws_mark.specs.Outcome.{found, find_of, AreCauses}
 use Rattle.pws_mark.specs.ReaderLaws.{read_events}
-use Rattle.pws_mark.specs.Reading.{Means, Reads, Refuses}
+use Rattle.pws_mark.specs.Reading.{Means, Refuses}
 use Rattle.pws_mark.specs.Scan.{run, start, is_whole}
 use Rattle.pws_mark.specs.Spelling.{write}
 use Rattle.pws_mark.specs.States.{State}
-use Rattle.pws_mark.specs.TreeOf.{is_nothing, root_among, ended_with, tree_of, TreesAreMeant, IsTreeOf, ReadingGivesTheTree}
+use Rattle.pws_mark.specs.TreeOf.{is_nothing, root_among, ended_with, tree_of, TreesAreMeant, ReadingGivesTheTree}
 use Rattle.pws_mark.specs.declared.errors.MarkError.{MarkError}
 use Rattle.pws_mark.specs.declared.errors.MarkKind.{MarkKind}
 use Rattle.pws_mark.specs.declared.errors.MarkKind.TheVariants as kind
-use Rattle.pws_mark.specs.declared.errors.ReadError.{ReadError}
 use Rattle.pws_mark.specs.declared.errors.ReadError.TheVariants as read_error
 use Rattle.pws_mark.proofs.Followed.{documents_are_followed}
 use Rattle.pws_mark.proofs.LawfulMeaning.{meanings}

@@ -1,8 +1,7 @@
 -- How the reader that takes one character after another and the definitions of documents agree. It is here for the
 -- proofs alone: no contract of another crate names it.
-use Rattle.std.specs.Prelude.{◌≡◌, ◌⊎◌, ℕ, suc, ◌<◌, ◌≤◌, Bool, true, false, ◌&&◌, List, [], ◌∷◌, ◌++◌, length, take, Option, Some, None, IsTrue, encode_utf8, encode_utf8_all}
+use Rattle.std.specs.Prelude.{◌≡◌, ◌⊎◌, ℕ, suc, ◌<◌, ◌≤◌, Bool, true, false, ◌&&◌, List, [], ◌∷◌, ◌++◌, length, take, Some, IsTrue, encode_utf8, encode_utf8_all}
 use Rattle.std.specs.Option.{is_some}
-use Rattle.std.specs.Str.{all_scalars}
 use Rattle.pws_tree.specs.Lawful.{is_lawful}
 use Rattle.pws_tree.specs.Trees.{Tree, Nodes, NoNode, ElementThen, add_text, add_qualified, add_element}
 use Rattle.pws_mark.specs.Documents.{Document, spell, spell_head, spell_prolog}
@@ -13,7 +12,7 @@ use Rattle.pws_mark.specs.Noted.{noted, SameFaults}
 use Rattle.pws_mark.specs.Places.{is_inside}
 use Rattle.pws_mark.specs.Scan.{region, step, run, start, is_whole, is_within}
 use Rattle.pws_mark.specs.Spelling.{write}
-use Rattle.pws_mark.specs.States.{Outer, State}
+use Rattle.pws_mark.specs.States.{State}
 use Rattle.pws_mark.specs.declared.modes.Event.{Event}
 use Rattle.pws_mark.specs.declared.modes.Event.TheVariants as event
 use Rattle.pws_mark.specs.declared.modes.Region.{Region}

@@ -1,6 +1,6 @@
 -- The grammar as a reader that takes one character after another, and how far it comes. It is here for the proofs alone:
 -- no contract of another crate names it.
-use Rattle.std.specs.Prelude.{◌≡◌, ℕ, suc, ◌+◌, ◌-◌, ◌*◌, Bool, true, false, not, ◌&&◌, ◌||◌, ◌==◌, nat_le, if◌then◌else◌, List, [], ◌∷◌, ◌++◌, length, slice_get, option_map, Option, Some, None, unwrap_or, codes, encode_utf8}
+use Rattle.std.specs.Prelude.{ℕ, ◌+◌, ◌-◌, ◌*◌, Bool, true, false, not, ◌&&◌, ◌||◌, ◌==◌, nat_le, if◌then◌else◌, List, [], ◌∷◌, ◌++◌, length, slice_get, option_map, Option, Some, None, unwrap_or, codes, encode_utf8}
 use Rattle.std.specs.Char.{to_ascii_lowercase}
 use Rattle.pws_tree.specs.Characters.{is_xml_char, is_name_start, is_name_char}
 use Rattle.pws_mark.specs.Bindings.{char_at, entity_char}
@@ -20,7 +20,6 @@ use Rattle.pws_mark.specs.declared.modes.Literal.{Literal}
 use Rattle.pws_mark.specs.declared.modes.Literal.TheVariants as literal
 use Rattle.pws_mark.specs.declared.modes.Declaring.{Declaring}
 use Rattle.pws_mark.specs.declared.modes.Declaring.TheVariants as declaring
-use Rattle.pws_mark.specs.declared.modes.ReadAttribute.{ReadAttribute}
 use Rattle.pws_mark.specs.declared.modes.ReadTag.{ReadTag}
 use Rattle.pws_mark.specs.declared.modes.ReadName.{ReadName}
 use Rattle.pws_mark.specs.declared.modes.ReadValue.{ReadValue}

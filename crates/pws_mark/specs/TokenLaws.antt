@@ -1,20 +1,19 @@
 -- How the reader takes the parts of a document. It is here for the proofs alone: no contract of another crate names it.
-use Rattle.std.specs.Prelude.{◌≡◌, ◌≢◌, ℕ, ◌+◌, Bool, true, false, not, ◌&&◌, ◌||◌, ◌==◌, if◌then◌else◌, List, [], ◌∷◌, ◌++◌, length, map, Option, Some, None, IsTrue, encode_utf8, encode_utf8_all}
+use Rattle.std.specs.Prelude.{◌≡◌, ◌≢◌, ℕ, ◌+◌, Bool, false, not, ◌&&◌, ◌||◌, ◌==◌, if◌then◌else◌, List, [], ◌∷◌, ◌++◌, length, map, Some, IsTrue, encode_utf8, encode_utf8_all}
 use Rattle.std.specs.List.{list_all}
 use Rattle.pws_mark.specs.Bindings.{piece_char, value_of, is_char}
-use Rattle.pws_mark.specs.Documents.{Piece, Attribute, Tag, Declaration, Document, spell_piece, spell_attribute, spell_tag, spell_head, section_start, section_end, comment_start, comment_end}
+use Rattle.pws_mark.specs.Documents.{Piece, Attribute, Tag, Document, spell_piece, spell_attribute, spell_tag, spell_head, section_start, section_end, comment_start, comment_end}
 use Rattle.pws_mark.specs.Faults.{Fault, piece_faults, value_faults, depth_faults}
 use Rattle.pws_mark.specs.Grammar.{is_tag, is_declaration}
 use Rattle.pws_mark.specs.Meaning.{char_text}
 use Rattle.pws_mark.specs.Noted.{start_finds, hollow_finds, end_finds, noted}
-use Rattle.pws_mark.specs.Scan.{region, text_bytes, marks_after, run, start, outside}
+use Rattle.pws_mark.specs.Scan.{region, text_bytes, run, start, outside}
 use Rattle.pws_mark.specs.Spelling.{write_piece, write_tag, write_head}
 use Rattle.pws_mark.specs.States.{Open, Outer, State, started, hollowed, ended, taken}
 use Rattle.pws_mark.specs.Tokens.{is_white, is_name, is_piece, is_text_char, is_section, is_comment}
 use Rattle.pws_mark.specs.declared.errors.MarkKind.{MarkKind}
 use Rattle.pws_mark.specs.declared.modes.ReadAttribute.{ReadAttribute}
 use Rattle.pws_mark.specs.declared.modes.ReadTag.{ReadTag}
-use Rattle.pws_mark.specs.declared.modes.Region.{Region}
 use Rattle.pws_mark.specs.declared.modes.Region.TheVariants as region_is
 use Rattle.pws_mark.specs.declared.modes.Mode.{Mode}
 use Rattle.pws_mark.specs.declared.modes.Mode.TheVariants as mode

@@ -38,10 +38,7 @@ impl Frame {
             attrs,
             children,
         } = self;
-        match Element::make(name, attrs.into_vec(), children.into_vec()) {
-            Ok(element) => element,
-            Err(_) => unreachable!(),
-        }
+        Element::of_parts(name, attrs.into_vec(), children.into_vec())
     }
 }
 

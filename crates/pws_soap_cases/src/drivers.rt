@@ -3,12 +3,12 @@
 use pws_addr::causes::{Cause, Request, request_of};
 use pws_addr::envelopes::{bare_fault_text, call_text, fault_text, reply_text};
 use pws_addr::headers::Addressing;
-use pws_addr::xml_texts::XmlText;
 use pws_base::bytes::Bytes;
 use pws_base::lists::{ExactCopy, Sequence};
 use pws_soap::envelopes::Envelope;
 use pws_soap::errors::SoapError;
 use pws_tree::characters::is_xml_text;
+use pws_tree::xml_texts::XmlText;
 use std::alloc::Global;
 use std::process::Abort;
 use std::test::Fail;
@@ -50,18 +50,12 @@ fn xml(alloc: Global, text: &str) -> Result<XmlText, Fail> {
 
 /// The text of call 1 of group 0 to group 1.
 fn call(alloc: Global, text: &str) -> Result<Option<Bytes>, Fail> {
-    if !is_xml_text(text) {
-        return Err(Fail::from("not of XML characters"));
-    }
-    Ok(call_text(alloc, 0, 1, 1, text)?)
+    Ok(call_text(alloc, 0, 1, 1, &xml(alloc, text)?)?)
 }
 
 /// The text of the reply to it.
 fn reply(alloc: Global, addressing: &Addressing, text: &str) -> Result<Bytes, Fail> {
-    if !is_xml_text(text) {
-        return Err(Fail::from("not of XML characters"));
-    }
-    Ok(reply_text(alloc, 1, 0, 1, Some(addressing), text)?)
+    Ok(reply_text(alloc, 1, 0, 1, Some(addressing), &xml(alloc, text)?)?)
 }
 
 /// The addressing of that call.

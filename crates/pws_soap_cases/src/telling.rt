@@ -2,9 +2,9 @@
 
 use pws_addr::headers::Addressing;
 use pws_addr::reading::AddrError;
-use pws_addr::xml_texts::XmlText;
 use pws_soap::errors::SoapError;
 use pws_tree::texts::Name;
+use pws_tree::xml_texts::XmlText;
 use std::alloc::Global;
 use std::test::Fail;
 

@@ -19,3 +19,9 @@ pub record IsMadeOf (name : Name) (attrs : List Attr) (children : List Node) (t 
 abbrev pub Makes : Name → List Attr → List Node → Result Tree BadTree → Type 0
 Makes name attrs children (Ok t) = IsMadeOf name attrs children t × IsTrue (is_lawful t)
 Makes name attrs children (Err bad) = (t : Tree) → IsMadeOf name attrs children t → ¬ (IsTrue (is_lawful t))
+
+-- there is a lawful tree of these parts
+pub record CanMake (name : Name) (attrs : List Attr) (children : List Node) : Type 0 where
+  pub tree : Tree
+  pub made : IsMadeOf name attrs children tree
+  pub lawful : IsTrue (is_lawful tree)

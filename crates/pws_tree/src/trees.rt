@@ -62,7 +62,7 @@ pub struct BadTree;
 ghost use Rattle.std.specs.Prelude.{◌≡◌, ◌≤◌, ◌↔◌, IsTrue};
 ghost use Rattle.pws_tree.specs.Lawful.{is_lawful, tree_depth};
 ghost use Rattle.pws_tree.specs.Nodes.{nodes_of};
-ghost use Rattle.pws_tree.specs.Made.{Makes};
+ghost use Rattle.pws_tree.specs.Made.{Makes, IsMadeOf, CanMake};
 
 impl Element {
     /// The element of these parts; the order of the attributes doesn't count.
@@ -101,6 +101,18 @@ impl Element {
             children,
             depth,
         }
+    }
+
+    /// The element of these parts, of which there is a lawful one: they aren't looked at, as `make` does. The order of the
+    /// attributes doesn't count.
+    pub fn of_parts(name: Name, attrs: Vec<Attr>, children: Vec<Node>) -> Element
+        requires { CanMake name attrs.items children.items }
+        ensures made { IsMadeOf name attrs.items children.items result }
+        ensures lawful { IsTrue (is_lawful result) }
+    {
+        let mut sorted = attrs;
+        sorted.sort_unstable();
+        Element::of_lawful(name, sorted, children)
     }
 
     /// Its name.

@@ -10,4 +10,4 @@ pub of_lawful-requires : goal.of_lawful-requires
 of_lawful-requires c =
     let t : Tree = record { name = c.in_ok-name.name; attrs = c.new.result.items; children = nodes_of c.in_ok-children.children.items } in
     let e : t ≡ message_tree c.args.local.now c.args.text.now = search rules in
-    subst (λ x. IsTrue (is_lawful x)) (sym e) (message_lawful c.args.local.now c.args.text.now c.requires.name c.requires.text)
+    subst (λ x. IsTrue (is_lawful x)) (sym e) (message_lawful c.args.local.now c.args.text.now c.requires c.as_str-lawful.ensures.lawful)

@@ -1,4 +1,4 @@
-use Rattle.std.proofs.Common.{◌≡◌, subst, sym, IsTrue}
+use Rattle.std.proofs.Common.{subst, sym, IsTrue}
 use Rattle.pws_tree.specs.Trees.{Tree}
 use Rattle.pws_soap.specs.Made.{has_few_levels}
 use Rattle.pws_addr.proofs.Messages.{message_low}

@@ -12,4 +12,4 @@ unfolding text_local
 of_lawful-requires c =
     let t : Tree = record { name = c.in_ok-name.name; attrs = c.new.result.items; children = nodes_of c.in_ok-children.children.items } in
     let e : t ≡ service_tree text_local (text_nodes c.args.text.now) = search rules in
-    subst (λ x. IsTrue (is_lawful x)) (sym e) (text_tree_lawful c.args.text.now c.requires)
+    subst (λ x. IsTrue (is_lawful x)) (sym e) (text_tree_lawful c.args.text.now c.as_str.ensures.lawful)

@@ -1,4 +1,4 @@
-use Rattle.std.proofs.Common.{◌≡◌, subst, sym, List, IsTrue}
+use Rattle.std.proofs.Common.{subst, sym, List, IsTrue}
 use Rattle.std.specs.List.{list_all}
 use Rattle.pws_tree.specs.Trees.{Tree}
 use Rattle.pws_soap.specs.Made.{has_few_levels}

@@ -1,4 +1,4 @@
-use Rattle.std.proofs.Common.{◌≡◌, ◌∙◌, sym, ap, subst, IsTrue, List, ℕ, rules, refl}
+use Rattle.std.proofs.Common.{◌≡◌, sym, subst, IsTrue, List, ℕ, rules, refl}
 use Rattle.std.specs.Prelude.{Some, find}
 use Rattle.pws_tree.specs.Characters.{is_xml_text}
 use Rattle.pws_addr.specs.Reading.{is_relationship}

@@ -1,6 +1,3 @@
-use Rattle.std.proofs.Common.{◌≡◌, ◌∙◌, sym, ap}
-use Rattle.pws_tree.specs.Nodes.{nodes_of}
-use Rattle.pws_addr.specs.Reading.{only_text}
 use Rattle.pws_addr.proofs.Said.{many_no_text}
 use Rattle.pws_addr.proofs.reading.only_text.Goals as goal
 

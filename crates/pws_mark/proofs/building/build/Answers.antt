@@ -1,4 +1,4 @@
-use Rattle.std.proofs.Common.{◌≡◌, sym, subst}
+use Rattle.std.proofs.Common.{subst}
 use Rattle.std.specs.Vec.Iter.{into_iter_items}
 use Rattle.pws_mark.specs.Frames.{Takes}
 use Rattle.pws_mark.proofs.Built.{may_begin, goes_on, ends, not_over}

@@ -1,9 +1,7 @@
-use Rattle.std.proofs.Common.{◌≡◌, ◌≤◌, ◌∙◌, ap, sym, subst, length, Bool, true, false, refl, None}
+use Rattle.std.proofs.Common.{◌∙◌, ap}
 use Rattle.std.proofs.lemmas.Str.{IsUtf8-past_char}
-use Rattle.std.specs.Str.{chars, IsUtf8}
+use Rattle.std.specs.Str.{chars}
 use Rattle.std.specs.Str.Iter.{chars_rest}
-use Rattle.pws_mark.specs.Taken.{HasTaken, Stops}
-use Rattle.pws_mark.specs.Scan.{step}
 use Rattle.pws_mark.proofs.TextsRead.{stops_so, begins_loop, goes_on, fits, stops_at, all_taken, shared_fits, taken_shares, fails_by, goes_by}
 use Rattle.pws_mark.proofs.reading.scan_text.Goals as goal
 

@@ -1,4 +1,3 @@
-use Rattle.std.proofs.Common.{sym}
 use Rattle.pws_mark.proofs.SeenSets.{bound_more}
 use Rattle.pws_mark.proofs.seen.add_bound.Goals as goal
 

@@ -1,8 +1,8 @@
-use Rattle.pws_mark.proofs.Built.{not_bad, made_is}
+use Rattle.pws_mark.proofs.Built.{can_make, made_is}
 use Rattle.pws_mark.proofs.building.Frame.into_element.Goals as goal
 
-pub unreachable-requires : goal.unreachable-requires
-unreachable-requires c = not_bad c.args.self _ _ c.into_vec.ensures c.into_vec-2.ensures c.requires c.in-Err.ensures
+pub of_parts-requires : goal.of_parts-requires
+of_parts-requires c = can_make c.args.self _ _ c.into_vec.ensures c.into_vec-2.ensures c.requires
 
 pub returns : goal.returns
-returns c = made_is c.args.self _ _ _ c.into_vec.ensures c.into_vec-2.ensures c.requires c.in-Ok.ensures.0 c.in-Ok.ensures.1
+returns c = made_is c.args.self _ _ _ c.into_vec.ensures c.into_vec-2.ensures c.requires c.of_parts.ensures.made c.of_parts.ensures.lawful

@@ -1,4 +1,4 @@
-use Rattle.std.proofs.Common.{◌≡◌, ◌<◌, ◌∙◌, ap, length, arith}
+use Rattle.std.proofs.Common.{◌<◌, ◌∙◌, ap, length, arith}
 use Rattle.pws_mark.specs.Bindings.{space_at}
 use Rattle.pws_mark.specs.States.{bound_at}
 use Rattle.pws_mark.proofs.Levels.{level_within, level_space, level_none}
