@@ -1,2 +1,2 @@
 pub mod FieldTexts
-pub mod Reads
+pub mod TextsRead

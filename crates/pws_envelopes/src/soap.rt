@@ -24,7 +24,7 @@ use std::alloc::Global;
 pub struct SoapEnvelopes;
 
 /// The envelope that a text is, if it is one.
-#[tactic(auto, using(crate::proofs::Reads::read_one, crate::proofs::Reads::read_none))]
+#[tactic(auto, using(crate::proofs::TextsRead::read_none))]
 fn envelope_at(alloc: Global, text: &[u8]) -> Result<Option<Envelope>, Memory>
     ensures { IfOk result (λ e. e ≡ envelope_at text.now) }
 {
@@ -37,7 +37,7 @@ fn envelope_at(alloc: Global, text: &[u8]) -> Result<Option<Envelope>, Memory>
 }
 
 /// What a text says as a request.
-#[tactic(auto, using(crate::proofs::Reads::request_read))]
+#[tactic(auto, using(crate::proofs::TextsRead::request_read))]
 fn request_at(alloc: Global, text: &[u8]) -> Result<Request, Memory>
     ensures { IfOk result (λ r. IsRequestAt text.now r) }
 {

@@ -15,7 +15,8 @@ mod vectors;
 mod tests {
     use crate::runs::first_untold;
     use crate::tables::{
-        rows_1, rows_2, rows_3, rows_4, rows_5, rows_6, rows_7, rows_8, rows_9, rows_10, rows_11, rows_12, rows_13, rows_14,
+        rows_1, rows_2, rows_3, rows_4, rows_5, rows_6, rows_7, rows_8, rows_9, rows_10, rows_11,
+        rows_12, rows_13, rows_14,
     };
     use std::test::Fail;
 

@@ -15,18 +15,12 @@ const PIECES: [(&str, &str); 24] = [
         "M",
         "</n1:To><n1:Action>urn:pws:call</n1:Action><n1:MessageID>urn:pws:call:",
     ),
+    ("A", "</n1:MessageID><n1:ReplyTo><n1:Address>urn:pws:group:"),
     (
-        "A",
-        "</n1:MessageID><n1:ReplyTo><n1:Address>urn:pws:group:",
-    ),
-    (
-        "T",
+        "t",
         "</n1:Address></n1:ReplyTo></n0:Header><n0:Body><n2:call><n2:text>",
     ),
-    (
-        "c",
-        "</n2:text></n2:call></n0:Body></n0:Envelope>",
-    ),
+    ("c", "</n2:text></n2:call></n0:Body></n0:Envelope>"),
     (
         "R",
         "<n0:Envelope xmlns:n0=\"http://www.w3.org/2003/05/soap-envelope\" xmlns:n1=\"http://www.w3.org/2005/08/addressing\" xmlns:n2=\"urn:pws\"><n0:Header><n1:To>",
@@ -35,10 +29,7 @@ const PIECES: [(&str, &str); 24] = [
         "I",
         "</n1:To><n1:Action>urn:pws:reply</n1:Action><n1:MessageID>urn:pws:reply:",
     ),
-    (
-        "L",
-        "</n1:MessageID><n1:RelatesTo>",
-    ),
+    ("L", "</n1:MessageID><n1:RelatesTo>"),
     (
         "B",
         "</n1:RelatesTo></n0:Header><n0:Body><n2:reply><n2:text>",
@@ -47,10 +38,7 @@ const PIECES: [(&str, &str); 24] = [
         "b",
         "</n1:MessageID></n0:Header><n0:Body><n2:reply><n2:text>",
     ),
-    (
-        "r",
-        "</n2:text></n2:reply></n0:Body></n0:Envelope>",
-    ),
+    ("r", "</n2:text></n2:reply></n0:Body></n0:Envelope>"),
     (
         "F",
         "<n0:Envelope xmlns:n0=\"http://www.w3.org/2003/05/soap-envelope\" xmlns:n1=\"http://www.w3.org/2005/08/addressing\"><n0:Header><n1:To>",
@@ -67,10 +55,7 @@ const PIECES: [(&str, &str); 24] = [
         "k",
         "</n1:MessageID></n0:Header><n0:Body><n0:Fault><n0:Code><n0:Value>n0:",
     ),
-    (
-        "S",
-        "</n0:Value><n0:Subcode><n0:Value>n1:",
-    ),
+    ("S", "</n0:Value><n0:Subcode><n0:Value>n1:"),
     (
         "s",
         "</n0:Value></n0:Subcode></n0:Code><n0:Reason><n0:Text xml:lang=\"en\">",
@@ -83,10 +68,7 @@ const PIECES: [(&str, &str); 24] = [
         "f",
         "</n0:Text></n0:Reason></n0:Fault></n0:Body></n0:Envelope>",
     ),
-    (
-        "a",
-        "http://www.w3.org/2005/08/addressing/anonymous",
-    ),
+    ("a", "http://www.w3.org/2005/08/addressing/anonymous"),
     (
         "e",
         "<e:Envelope xmlns:e=\"http://www.w3.org/2003/05/soap-envelope\"",
@@ -95,14 +77,8 @@ const PIECES: [(&str, &str); 24] = [
         "w",
         " xmlns:w=\"http://www.w3.org/2005/08/addressing\"><e:Header><w:Action>a</w:Action>",
     ),
-    (
-        "o",
-        "</e:Header><e:Body>",
-    ),
-    (
-        "z",
-        "</e:Body></e:Envelope>",
-    ),
+    ("o", "</e:Header><e:Body>"),
+    ("z", "</e:Body></e:Envelope>"),
 ];
 
 const REPEATED: [(&str, &str); 4] = [("x", "x"), ("y", "a"), ("&", "&amp;"), ("+", "&")];

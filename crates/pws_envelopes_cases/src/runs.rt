@@ -1,7 +1,5 @@
 //! The runner on rows of the tables.
 
-ghost use Rattle.std.specs.Prelude.{◌≡◌, true, false, IfOk, IfSome};
-
 use crate::pieces::whole;
 use hex::decode;
 use pws_base::bytes::Bytes;
@@ -64,27 +62,6 @@ fn layout_of(alloc: Global, faults: &str) -> Result<Layout, Fail> {
     Ok(Layout::new(shapes.as_slice())?)
 }
 
-/// The runner of a script in a group of a layout, as a row tells them.
-fn runner_of(
-    alloc: Global,
-    setting: &str,
-    script: &str,
-) -> Result<Option<Runner<SoapEnvelopes>>, Fail>
-    ensures { IfOk result (λ o. IfSome o (λ r. r.started ≡ false)) }
-{
-    let Some((me, faults)) = setting.split_once(' ') else {
-        return Ok(None);
-    };
-    let me: u8 = me.parse()?;
-    let layout = layout_of(alloc, faults)?;
-    if me >= layout.groups() {
-        return Ok(None);
-    }
-    let script = whole(alloc, script)?;
-    let script = Script::read(alloc, script.as_bytes())?;
-    Ok(Some(Runner::new(alloc, script, me, &layout)?))
-}
-
 /// The event of which this is the short form.
 fn event_of(alloc: Global, short: &str) -> Result<Event, Fail> {
     let (head, body) = short.split_once(' ').unwrap_or((short, ""));
@@ -93,24 +70,16 @@ fn event_of(alloc: Global, short: &str) -> Result<Event, Fail> {
     Ok(read_event(alloc, bytes.as_slice())?)
 }
 
-/// Whether an effect brings these acts.
-fn brings(alloc: Global, runner: &mut Runner<SoapEnvelopes>, step: &str) -> Result<bool, Fail>
-    requires { runner.old.started ≡ true }
-    ensures { runner.new.started ≡ true }
-{
-    let Some((event, acts)) = step.split_once('~') else {
-        return Ok(false);
-    };
-    let event = event_of(alloc, event)?;
-    let given = runner.take(alloc, &event)?;
-    Ok(!runner.is_stopped() && are(alloc, &given, acts)?)
-}
-
-/// Whether a run is as told; the second half of it is that of a copy.
+/// Whether a run is as told; a copy made after the start takes the same.
 fn is_as_told(alloc: Global, setting: &str, script: &str, run: &str) -> Result<bool, Fail> {
-    let Some(mut runner) = runner_of(alloc, setting, script)? else {
+    let (me, faults) = setting.split_once(' ').unwrap_or((setting, ""));
+    let me: u8 = me.parse()?;
+    let layout = layout_of(alloc, faults)?;
+    if me >= layout.groups() {
         return Ok(false);
-    };
+    }
+    let script = Script::read(alloc, whole(alloc, script)?.as_bytes())?;
+    let mut runner: Runner<SoapEnvelopes> = Runner::new(alloc, script, me, &layout)?;
     let mut steps = run.split('|');
     let acts = runner.start(alloc)?;
     if !are(alloc, &acts, steps.next().unwrap_or(""))? {
@@ -118,7 +87,11 @@ fn is_as_told(alloc: Global, setting: &str, script: &str, run: &str) -> Result<b
     }
     let mut copy = runner.copy(alloc)?;
     for step in steps {
-        if !brings(alloc, &mut runner, step)? || !brings(alloc, &mut copy, step)? {
+        let (event, acts) = step.split_once('~').unwrap_or((step, ""));
+        let event = event_of(alloc, event)?;
+        let given = runner.take(alloc, &event)?;
+        let again = copy.take(alloc, &event)?;
+        if runner.is_stopped() || !are(alloc, &given, acts)? || !are(alloc, &again, acts)? {
             return Ok(false);
         }
     }

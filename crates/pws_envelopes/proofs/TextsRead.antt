@@ -41,14 +41,14 @@ tree_is : ReadingGivesTheTree → (text : List ℕ) (answer : Result Enveloped S
 tree_is law text answer t h g = record { tree = t; is = read_tree law text t h; answers = g }
 
 pub read_one : ReadingGivesTheTree → (text : List ℕ) (e : Enveloped) → ReadsEnvelope text (Ok e) → Some e ≡ envelope_at text
-read_one law text e h = sym (by_tree text (Ok e) (tree_is law text (Ok e) h.0 h.1 h.2))
+read_one law text e h = sym (by_tree text (Ok e) (tree_is law text (Ok e) h.0 h.1.0 h.1.1))
 
 pub read_none : ReadingGivesTheTree → (text : List ℕ) (e : SoapError) → ReadsEnvelope text (Err e) → (e ≡ soap_error.Memory → ⊥) → None ≡ envelope_at text
 read_none law text (soap_error.Mark e) h n = sym (ap envelope_in (no_tree law text e h))
-read_none law text soap_error.NotEnvelope h n = sym (by_tree text (Err soap_error.NotEnvelope) (tree_is law text (Err soap_error.NotEnvelope) h.0 h.1 h.2))
-read_none law text soap_error.Version h n = sym (by_tree text (Err soap_error.Version) (tree_is law text (Err soap_error.Version) h.0 h.1 h.2))
-read_none law text soap_error.Order h n = sym (by_tree text (Err soap_error.Order) (tree_is law text (Err soap_error.Order) h.0 h.1 h.2))
-read_none law text (soap_error.MustUnderstand b) h n = sym (by_tree text (Err (soap_error.MustUnderstand b)) (tree_is law text (Err (soap_error.MustUnderstand b)) h.0 h.1 h.2))
+read_none law text soap_error.NotEnvelope h n = sym (by_tree text (Err soap_error.NotEnvelope) (tree_is law text (Err soap_error.NotEnvelope) h.0 h.1.0 h.1.1))
+read_none law text soap_error.Version h n = sym (by_tree text (Err soap_error.Version) (tree_is law text (Err soap_error.Version) h.0 h.1.0 h.1.1))
+read_none law text soap_error.Order h n = sym (by_tree text (Err soap_error.Order) (tree_is law text (Err soap_error.Order) h.0 h.1.0 h.1.1))
+read_none law text (soap_error.MustUnderstand b) h n = sym (by_tree text (Err (soap_error.MustUnderstand b)) (tree_is law text (Err (soap_error.MustUnderstand b)) h.0 h.1.0 h.1.1))
 read_none law text soap_error.Memory h n = absurd (n refl)
 
 -- ---- a request
@@ -65,10 +65,10 @@ without_memory text (request.Readable a) i = let e : ◌≡◌ {A = Option Addre
 without_memory text (request.Refused c) i = let e : ◌≡◌ {A = Option Cause} None (Some c) = i.1 in absurd (cc)
 
 pub request_read : ReadingGivesTheTree → (text : List ℕ) (read : Result Enveloped SoapError) (r : Request) → ReadsEnvelope text read → IsRequest read r → IsRequestAt text r
-request_read law text (Ok e) r h i = said_by_tree text (Ok e) r (tree_is law text (Ok e) h.0 h.1 h.2) i
+request_read law text (Ok e) r h i = said_by_tree text (Ok e) r (tree_is law text (Ok e) h.0 h.1.0 h.1.1) i
 request_read law text (Err (soap_error.Mark e)) r h i = said text (Err (soap_error.Mark e)) r (ap addressing_by (no_tree law text e h)) (ap cause_by (no_tree law text e h)) i
-request_read law text (Err soap_error.NotEnvelope) r h i = said_by_tree text (Err soap_error.NotEnvelope) r (tree_is law text (Err soap_error.NotEnvelope) h.0 h.1 h.2) i
-request_read law text (Err soap_error.Version) r h i = said_by_tree text (Err soap_error.Version) r (tree_is law text (Err soap_error.Version) h.0 h.1 h.2) i
-request_read law text (Err soap_error.Order) r h i = said_by_tree text (Err soap_error.Order) r (tree_is law text (Err soap_error.Order) h.0 h.1 h.2) i
-request_read law text (Err (soap_error.MustUnderstand b)) r h i = said_by_tree text (Err (soap_error.MustUnderstand b)) r (tree_is law text (Err (soap_error.MustUnderstand b)) h.0 h.1 h.2) i
+request_read law text (Err soap_error.NotEnvelope) r h i = said_by_tree text (Err soap_error.NotEnvelope) r (tree_is law text (Err soap_error.NotEnvelope) h.0 h.1.0 h.1.1) i
+request_read law text (Err soap_error.Version) r h i = said_by_tree text (Err soap_error.Version) r (tree_is law text (Err soap_error.Version) h.0 h.1.0 h.1.1) i
+request_read law text (Err soap_error.Order) r h i = said_by_tree text (Err soap_error.Order) r (tree_is law text (Err soap_error.Order) h.0 h.1.0 h.1.1) i
+request_read law text (Err (soap_error.MustUnderstand b)) r h i = said_by_tree text (Err (soap_error.MustUnderstand b)) r (tree_is law text (Err (soap_error.MustUnderstand b)) h.0 h.1.0 h.1.1) i
 request_read law text (Err soap_error.Memory) r h i = without_memory text r i
