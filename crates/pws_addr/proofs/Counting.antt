@@ -1,8 +1,7 @@
 -- The header blocks for this node alone count.
-use Rattle.std.proofs.Common.{◌≡◌, ℕ, Bool, true, false, not, ◌&&◌, cond, List, [], ◌∷◌, ◌++◌, length, filter, find, refl, ap, sym, ◌∙◌, IsTrue}
-use Rattle.std.specs.Prelude.{Option, Some, None, unwrap_or, option_and_then, if◌then◌else◌, nat_lt, Result, Ok, Err}
+use Rattle.std.proofs.Common.{◌≡◌, Bool, true, false, ◌&&◌, cond, List, [], ◌∷◌, length, filter, find, refl, ap, sym, ◌∙◌}
+use Rattle.std.specs.Prelude.{Option, Some, None, unwrap_or, option_and_then, if◌then◌else◌, nat_lt, Ok, Err}
 use Rattle.std.specs.List.{list_any, filter_map}
-use Rattle.std.proofs.lemmas.Bool.{and_parts, both_ways, false_from_ne_true}
 use Rattle.pws_tree.specs.Trees.{Tree}
 use Rattle.pws_soap.specs.Blocks.{is_for_node}
 use Rattle.pws_soap.specs.Names.{addressing_space, is_named}
@@ -12,7 +11,6 @@ use Rattle.pws_addr.specs.Reading.{is_block, said, relation_said, first_said, al
 use Rattle.pws_addr.specs.declared.headers.Header.{Header}
 use Rattle.pws_addr.specs.declared.headers.Header.TheVariants as header
 use Rattle.pws_addr.specs.declared.headers.Addressing.{Addressing}
-use Rattle.pws_addr.specs.declared.reading.AddrError.{AddrError}
 use Rattle.pws_addr.specs.declared.reading.AddrError.TheVariants as addr_error
 use Rattle.pws_addr.proofs.Again.{head_of, is_any, find_is, any_is, and_is, is_silent, parts_same}
 

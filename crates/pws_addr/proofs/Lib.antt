@@ -6,4 +6,6 @@ pub mod Lawful
 pub mod Messages
 pub mod Printable
 pub mod Said
+pub mod Sayable
+pub mod Trimmed
 pub mod Weights

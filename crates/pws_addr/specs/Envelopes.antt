@@ -1,10 +1,10 @@
 -- The envelopes that drivers make: calls, replies and faults; they are this project's own. The action of a fault is from
 -- WS-Addressing 1.0 SOAP Binding, section 6; that all faults have this one is this project's own.
-use Rattle.std.specs.Prelude.{ℕ, Bool, nat_le, if◌then◌else◌, List, [], ◌∷◌, length, codes, Option, Some, None}
+use Rattle.std.specs.Prelude.{ℕ, Bool, nat_le, if◌then◌else◌, List, [], length, codes, Option, Some, None}
 use Rattle.pws_tree.specs.Trees.{Tree, Nodes, NoNode}
 use Rattle.pws_tree.specs.declared.texts.Name.{Name}
 use Rattle.pws_mark.specs.Canonical.{canonical}
-use Rattle.pws_soap.specs.Envelopes.{Enveloped, element_then, root_of}
+use Rattle.pws_soap.specs.Envelopes.{element_then, root_of}
 use Rattle.pws_soap.specs.Faults.{text_nodes, fault_tree, envelope_around}
 use Rattle.pws_addr.specs.Blocks.{blocks_of}
 use Rattle.pws_addr.specs.Causes.{fault_of}

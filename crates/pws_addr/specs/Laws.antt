@@ -35,6 +35,10 @@ texts_of a =
 abbrev pub PutIsRead : Type 0
 PutIsRead = (headers : List Tree) (a : Addressing) → IsTrue (list_all is_other headers) → IsTrue (list_all is_sayable (texts_of a)) → addressing_of (headers ++ blocks_of a) ≡ Ok a
 
+-- and what was read is read again from the blocks of it
+abbrev pub ReadIsReadAgain : Type 0
+ReadIsReadAgain = (headers : List Tree) (a : Addressing) → addressing_of headers ≡ Ok a → addressing_of (blocks_of a) ≡ Ok a
+
 -- the header blocks for this node alone count
 abbrev pub OursCount : Type 0
 OursCount = (headers : List Tree) → addressing_of (filter is_for_node headers) ≡ addressing_of headers

@@ -1,6 +1,6 @@
 -- The addressing of a reply (WS-Addressing 1.0 Core, section 3.4). Its action, and that FaultTo isn't looked at, are this
 -- project's own.
-use Rattle.std.specs.Prelude.{ℕ, List, [], ◌∷◌, map, codes, None, unwrap_or}
+use Rattle.std.specs.Prelude.{ℕ, List, map, codes, None, unwrap_or}
 use Rattle.std.specs.Option.{option_to_list}
 use Rattle.pws_addr.specs.Headers.{anonymous, reply_relation}
 use Rattle.pws_addr.specs.declared.headers.Relation.{Relation}

@@ -15,7 +15,6 @@ use crate::headers::Addressing;
 use crate::identifiers::{call_id, group_address, reply_id};
 use crate::putting::{put_addressing, text_nodes};
 use crate::replies::{anonymous, reply_action, reply_of};
-use pws_tree::xml_texts::XmlText;
 use pws_base::bytes::Bytes;
 use pws_base::lists::Sequence;
 use pws_base::memory::Memory;
@@ -25,6 +24,7 @@ use pws_soap::faults::fault_envelope;
 use pws_soap::writing::write_envelope;
 use pws_tree::texts::{Name, Text};
 use pws_tree::trees::{Element, Node};
+use pws_tree::xml_texts::XmlText;
 use std::alloc::Global;
 
 /// The namespace of the elements by which services talk, this project's own.

@@ -4,11 +4,11 @@ ghost use Rattle.std.specs.Prelude.{◌≡◌, IfOk};
 ghost use Rattle.pws_addr.specs.Blocks.{holds_address};
 ghost use Rattle.pws_addr.specs.Headers.{addressing_name, header_local, header_name};
 
-use pws_tree::xml_texts::XmlText;
 use pws_base::lists::{ExactCopy, Sequence};
 use pws_base::memory::Memory;
 use pws_soap::names::ADDRESSING_SPACE;
 use pws_tree::texts::{Name, Text};
+use pws_tree::xml_texts::XmlText;
 use std::alloc::Global;
 
 /// The address that names the sender's own connection.

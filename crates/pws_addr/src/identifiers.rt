@@ -3,9 +3,9 @@
 ghost use Rattle.std.specs.Prelude.{◌≡◌, IfOk};
 ghost use Rattle.pws_addr.specs.Identifiers.{group_address, call_id, reply_id};
 
-use pws_tree::xml_texts::XmlText;
 use pws_base::memory::Memory;
 use pws_base::shapes::{GroupId, Number};
+use pws_tree::xml_texts::XmlText;
 use std::alloc::Global;
 
 /// The address of a group.

@@ -1,6 +1,6 @@
 //! Laws of addressing and of the envelopes of drivers. The functions do nothing: their contracts are the laws.
 
-ghost use Rattle.pws_addr.specs.Laws.{FaultsFit, OursCount, PutIsRead, RepliesFit};
+ghost use Rattle.pws_addr.specs.Laws.{FaultsFit, OursCount, PutIsRead, ReadIsReadAgain, RepliesFit};
 
 /// What an addressing puts into an envelope is what is read there: behind header blocks of which none is an addressing
 /// header for this node, the blocks of an addressing say that addressing, where its texts are ones that a header can say,
@@ -8,6 +8,12 @@ ghost use Rattle.pws_addr.specs.Laws.{FaultsFit, OursCount, PutIsRead, RepliesFi
 #[tactic(auto, using(crate::proofs::Again::put_is_read))]
 pub fn put_is_read()
     ensures { PutIsRead }
+{}
+
+/// And what was read, from whatever header blocks, is read again from the blocks of that addressing.
+#[tactic(auto, using(crate::proofs::Sayable::read_is_read_again))]
+pub fn read_is_read_again()
+    ensures { ReadIsReadAgain }
 {}
 
 /// The header blocks for this node alone count.

@@ -11,10 +11,10 @@
 //! The contract that all above rely on: `read_addressing` answers what the definition `addressing_of`, in specs/, gives for
 //! the header blocks of an envelope, each refusal exactly where it says, `reply_of` is a function of the addressing alone,
 //! and the texts of `call_text`, `reply_text` and `fault_text` are the canonical ones of the envelopes that specs/Envelopes
-//! describes. By the laws what is put into an envelope is read there again, and no fault and no reply is longer than a body
-//! may be.
+//! describes, and no longer than a body may be. By the laws what is put into an envelope is read there again, and what was
+//! read is read again from what is put for it.
 //!
-//! Nothing stands on this layer yet; the script runner's service will.
+//! On this layer stands `pws_envelopes`, what envelopes mean to a service.
 #![tactic(auto)]
 
 pub mod causes;

@@ -10,11 +10,11 @@ ghost use Rattle.pws_soap.specs.Made.{with_headers};
 ghost use Rattle.pws_addr.specs.Blocks.{address_tree, content_of, block_of, plain_block, relationship, kind_attrs, relation_block, blocks_of};
 
 use crate::headers::{Addressing, Header, REPLY_RELATION, Relation, addressing_name};
-use pws_tree::xml_texts::XmlText;
 use pws_base::memory::Memory;
 use pws_soap::envelopes::Envelope;
 use pws_tree::texts::{Attr, Name, Text};
 use pws_tree::trees::{Element, Node};
+use pws_tree::xml_texts::XmlText;
 use std::alloc::Global;
 
 /// A text as the content of an element, which has no child where there is no character.

@@ -12,7 +12,6 @@ ghost use Rattle.pws_addr.specs.Reading.{is_block, some_text, only_text, text_sa
 use crate::headers::{
     ALL_HEADERS, ANONYMOUS, Addressing, Header, REPLY_RELATION, Relation, SINGLE_HEADERS,
 };
-use pws_tree::xml_texts::XmlText;
 use pws_base::lists::Sequence;
 use pws_base::memory::Memory;
 use pws_soap::blocks::is_for_node;
@@ -21,6 +20,7 @@ use pws_soap::names::ADDRESSING_SPACE;
 use pws_soap::white::trim;
 use pws_tree::texts::{Attr, Name, Text};
 use pws_tree::trees::{Element, Node};
+use pws_tree::xml_texts::XmlText;
 use std::alloc::Global;
 use thiserror::Error;
 

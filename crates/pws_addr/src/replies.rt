@@ -6,9 +6,9 @@ ghost use Rattle.pws_addr.specs.Headers.{anonymous, reply_relation};
 ghost use Rattle.pws_addr.specs.Replies.{reply_action, in_reply, reply_of};
 
 use crate::headers::{ANONYMOUS, Addressing, REPLY_RELATION, Relation};
-use pws_tree::xml_texts::XmlText;
 use pws_base::lists::{ExactCopy, Sequence};
 use pws_base::memory::Memory;
+use pws_tree::xml_texts::XmlText;
 use std::alloc::Global;
 
 /// The anonymous address.

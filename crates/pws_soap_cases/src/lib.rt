@@ -12,3 +12,7 @@ mod drivers;
 mod table;
 #[cfg(test)]
 mod telling;
+#[cfg(test)]
+mod text_table;
+#[cfg(test)]
+mod texts;

@@ -69,7 +69,7 @@ fn named(alloc: Global, word: &str, name: &Name) -> Result<String, Fail> {
 /// Why there is no envelope.
 pub fn soap_told(alloc: Global, error: &SoapError) -> Result<String, Fail> {
     match error {
-        SoapError::Mark(_) => Ok(String::from_str(alloc, "Mark")?),
+        SoapError::Mark(error) => Ok(format!(in alloc; "Mark {:?} at {}", error.kind, error.at)?),
         SoapError::NotEnvelope => Ok(String::from_str(alloc, "NotEnvelope")?),
         SoapError::Version => Ok(String::from_str(alloc, "Version")?),
         SoapError::Order => Ok(String::from_str(alloc, "Order")?),

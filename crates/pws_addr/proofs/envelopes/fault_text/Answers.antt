@@ -1,4 +1,4 @@
-use Rattle.std.proofs.Common.{◌≡◌, ◌≤◌, ℕ, List, length, subst, sym, arith}
+use Rattle.std.proofs.Common.{◌≤◌, ℕ, List, length, subst, sym, arith}
 use Rattle.std.specs.Option.{option_copied}
 use Rattle.pws_addr.proofs.Fitting.{faults_fit}
 use Rattle.pws_addr.proofs.envelopes.fault_text.Goals as goal

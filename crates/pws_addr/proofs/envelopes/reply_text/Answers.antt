@@ -1,4 +1,4 @@
-use Rattle.std.proofs.Common.{◌≡◌, ◌≤◌, ℕ, List, length, subst, sym, arith}
+use Rattle.std.proofs.Common.{◌≤◌, ℕ, List, length, subst, sym, arith}
 use Rattle.std.specs.Option.{option_copied}
 use Rattle.pws_addr.proofs.Fitting.{replies_fit}
 use Rattle.pws_addr.proofs.envelopes.reply_text.Goals as goal
