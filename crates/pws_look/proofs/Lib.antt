@@ -2,3 +2,4 @@ pub mod Counted
 pub mod Ended
 pub mod Reports
 pub mod Scripts
+pub mod Told

@@ -68,11 +68,21 @@ abbrev pub name_words : Name → List ℕ
 name_words n = codes "{" ++ n.space ++ codes "}" ++ n.local
 
 -- how many header blocks, and nodes in the body
-abbrev pub size_words : Enveloped → List ℕ
-size_words e = codes "ok headers " ++ decimal (length e.headers) ++ codes " body " ++ decimal (node_count e.body)
+unfoldable pub header_words : ℕ → List ℕ
+header_words headers = codes "ok headers " ++ decimal headers
 
-abbrev pub target_words : Addressing → List ℕ
-target_words a = codes "to " ++ encode_lower a.to ++ codes " action " ++ encode_lower a.action
+unfoldable pub body_words : ℕ → List ℕ
+body_words body = codes " body " ++ decimal body
+
+unfoldable pub envelope_sizes : Enveloped → List ℕ
+envelope_sizes e = header_words (length e.headers) ++ body_words (node_count e.body)
+
+-- where a message goes, and what it is for, both in hexadecimal
+unfoldable pub target_words : List ℕ → List ℕ → List ℕ
+target_words to action = codes "to " ++ to ++ codes " action " ++ action
+
+abbrev pub target : Addressing → List ℕ
+target a = target_words (encode_lower a.to) (encode_lower a.action)
 
 abbrev pub addressing_refusal : AddrError → List ℕ
 addressing_refusal (addr_error.Cardinality n) = codes "Cardinality " ++ name_words n
@@ -80,9 +90,14 @@ addressing_refusal addr_error.Required = codes "Required"
 addressing_refusal (addr_error.Invalid n) = codes "Invalid " ++ name_words n
 addressing_refusal addr_error.Memory = []
 
+-- the want of memory is no refusal
+abbrev pub IsWanted : AddrError → Type 0
+IsWanted addr_error.Memory = ⊥
+IsWanted e = Unit {0}
+
 abbrev pub addressed_answer : Enveloped → Result Addressing AddrError → Answer
-addressed_answer e (Ok a) = good (size_words e ++ codes " " ++ target_words a)
-addressed_answer e (Err x) = refused (size_words e ++ codes " " ++ addressing_refusal x)
+addressed_answer e (Ok a) = good (envelope_sizes e ++ codes " " ++ target a)
+addressed_answer e (Err x) = refused (envelope_sizes e ++ codes " " ++ addressing_refusal x)
 
 abbrev pub soap_refusal : SoapError → List ℕ
 soap_refusal (soap_error.Mark e) = codes "Mark " ++ mark_words e

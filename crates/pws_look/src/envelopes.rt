@@ -1,8 +1,9 @@
 //! What is said of texts of elements and of envelopes.
 
 ghost use Rattle.std.specs.Prelude.{◌≡◌, IfOk, Ok, Err, string_bytes};
+ghost use Rattle.hex.specs.Hex.{encode_lower};
 ghost use Rattle.pws_tree.specs.Nodes.{nodes_of};
-ghost use Rattle.pws_look.specs.Envelopes.{mark_word, mark_words, envelope_line, envelope_answer, EnvelopeAnswers, node_count, name_words, size_words, target_words, addressing_refusal, addressed_answer, soap_refusal, soap_answer, SoapAnswers, IsTold, IsAddressed};
+ghost use Rattle.pws_look.specs.Envelopes.{mark_word, mark_words, envelope_line, envelope_answer, EnvelopeAnswers, node_count, name_words, header_words, body_words, envelope_sizes, target_words, target, addressing_refusal, addressed_answer, soap_refusal, soap_answer, SoapAnswers, IsTold, IsWanted};
 
 use crate::answers::{Answer, good, refused};
 use pws_addr::headers::Addressing;
@@ -107,27 +108,60 @@ fn name_words(alloc: Global, name: &Name) -> Result<String, Memory>
     Ok(format!(in alloc; "{{{space}}}{local}")?)
 }
 
-/// How much an envelope has.
-fn size_words(alloc: Global, envelope: &Envelope) -> Result<String, Memory>
-    ensures { IfOk result (λ words. string_bytes words ≡ size_words envelope.now) }
+/// How many header blocks there are.
+#[tactic(auto, unfolding(crate::specs::Envelopes::header_words))]
+fn header_words(alloc: Global, headers: usize) -> Result<String, Memory>
+    ensures { IfOk result (λ words. string_bytes words ≡ header_words headers) }
 {
-    let headers = envelope.headers().len();
-    let body = node_count(envelope.body());
-    Ok(format!(in alloc; "ok headers {headers} body {body}")?)
+    Ok(format!(in alloc; "ok headers {headers}")?)
+}
+
+/// How many nodes the body has.
+#[tactic(auto, unfolding(crate::specs::Envelopes::body_words))]
+fn body_words(alloc: Global, body: usize) -> Result<String, Memory>
+    ensures { IfOk result (λ words. string_bytes words ≡ body_words body) }
+{
+    Ok(format!(in alloc; " body {body}")?)
+}
+
+/// How much an envelope has.
+#[tactic(auto, unfolding(crate::specs::Envelopes::envelope_sizes))]
+fn envelope_sizes(alloc: Global, envelope: &Envelope) -> Result<String, Memory>
+    ensures { IfOk result (λ words. string_bytes words ≡ envelope_sizes envelope.now) }
+{
+    let headers = header_words(alloc, envelope.headers().len())?;
+    let body = body_words(alloc, node_count(envelope.body()))?;
+    Ok(format!(in alloc; "{headers}{body}")?)
+}
+
+/// A text in hexadecimal.
+fn hexadecimal(alloc: Global, text: &str) -> Result<String, Memory>
+    ensures { IfOk result (λ words. string_bytes words ≡ encode_lower text.now) }
+{
+    Ok(hex::encode(alloc, text.as_bytes())?)
+}
+
+/// Where a message goes, and what it is for, both in hexadecimal.
+#[tactic(auto, unfolding(crate::specs::Envelopes::target_words))]
+fn target_words(alloc: Global, to: &str, action: &str) -> Result<String, Memory>
+    ensures { IfOk result (λ words. string_bytes words ≡ target_words to.now action.now) }
+{
+    Ok(format!(in alloc; "to {to} action {action}")?)
 }
 
 /// Where a message goes, and what it is for.
-fn target_words(alloc: Global, addressing: &Addressing) -> Result<String, Memory>
-    ensures { IfOk result (λ words. string_bytes words ≡ target_words addressing.now) }
+fn target(alloc: Global, addressing: &Addressing) -> Result<String, Memory>
+    ensures { IfOk result (λ words. string_bytes words ≡ target addressing.now) }
 {
-    let to = hex::encode(alloc, addressing.to.as_str().as_bytes())?;
-    let action = hex::encode(alloc, addressing.action.as_str().as_bytes())?;
-    Ok(format!(in alloc; "to {to} action {action}")?)
+    let to = hexadecimal(alloc, addressing.to.as_str())?;
+    let action = hexadecimal(alloc, addressing.action.as_str())?;
+    target_words(alloc, to.as_str(), action.as_str())
 }
 
 /// Why there is no addressing.
 fn addressing_refusal(alloc: Global, error: &AddrError) -> Result<String, Memory>
-    ensures { IfOk result (λ words. string_bytes words ≡ addressing_refusal error.now) }
+    ensures words { IfOk result (λ words. string_bytes words ≡ addressing_refusal error.now) }
+    ensures wanted { IfOk result (λ words. IsWanted error.now) }
 {
     match error {
         AddrError::Cardinality(name) => {
@@ -151,16 +185,17 @@ fn addressed(
 ) -> Result<Answer, Memory>
     ensures { IfOk result (λ a. a ≡ addressed_answer envelope.now (Ok addressing.now)) }
 {
-    let sizes = size_words(alloc, envelope)?;
-    let target = target_words(alloc, addressing)?;
+    let sizes = envelope_sizes(alloc, envelope)?;
+    let target = target(alloc, addressing)?;
     Ok(good(format!(in alloc; "{sizes} {target}")?))
 }
 
 /// What is said of an envelope whose addressing is refused.
 fn not_addressed(alloc: Global, envelope: &Envelope, error: &AddrError) -> Result<Answer, Memory>
-    ensures { IfOk result (λ a. a ≡ addressed_answer envelope.now (Err error.now)) }
+    ensures answer { IfOk result (λ a. a ≡ addressed_answer envelope.now (Err error.now)) }
+    ensures wanted { IfOk result (λ a. IsWanted error.now) }
 {
-    let sizes = size_words(alloc, envelope)?;
+    let sizes = envelope_sizes(alloc, envelope)?;
     let refusal = addressing_refusal(alloc, error)?;
     Ok(refused(format!(in alloc; "{sizes} {refusal}")?))
 }
@@ -171,14 +206,14 @@ fn envelope_read(alloc: Global, envelope: &Envelope) -> Result<Answer, Memory>
 {
     match read_addressing(alloc, envelope) {
         Ok(addressing) => addressed(alloc, envelope, &addressing),
-        Err(AddrError::Memory) => Err(Memory),
         Err(error) => not_addressed(alloc, envelope, &error),
     }
 }
 
 /// Why there is no envelope.
 fn soap_refusal(alloc: Global, error: &SoapError) -> Result<String, Memory>
-    ensures { IfOk result (λ words. string_bytes words ≡ soap_refusal error.now) }
+    ensures words { IfOk result (λ words. string_bytes words ≡ soap_refusal error.now) }
+    ensures told { IfOk result (λ words. IsTold (Err error.now)) }
 {
     match error {
         SoapError::Mark(error) => {
@@ -198,7 +233,8 @@ fn soap_refusal(alloc: Global, error: &SoapError) -> Result<String, Memory>
 
 /// What is said of a text that is no envelope.
 fn envelope_refused(alloc: Global, error: &SoapError) -> Result<Answer, Memory>
-    ensures { IfOk result (λ a. a ≡ soap_answer (Err error.now)) }
+    ensures answer { IfOk result (λ a. a ≡ soap_answer (Err error.now)) }
+    ensures told { IfOk result (λ a. IsTold (Err error.now)) }
 {
     Ok(refused(soap_refusal(alloc, error)?))
 }
@@ -213,7 +249,6 @@ pub fn soap_answer(alloc: Global, text: &[u8]) -> Result<Answer, Memory>
 {
     match read_envelope(alloc, text) {
         Ok(envelope) => envelope_read(alloc, &envelope),
-        Err(SoapError::Memory) => Err(Memory),
         Err(error) => envelope_refused(alloc, &error),
     }
 }
