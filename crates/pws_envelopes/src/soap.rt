@@ -81,7 +81,8 @@ impl Envelopes for SoapEnvelopes {
         key: Key,
         text: &str,
     ) -> Result<Option<Bytes>, Memory> {
-        call_text(alloc, me, key.group, key.number, text)
+        let text = XmlText::from_str(alloc, text)?;
+        call_text(alloc, me, key.group, key.number, &text)
     }
 
     fn refusal_of(
@@ -106,11 +107,12 @@ impl Envelopes for SoapEnvelopes {
         message: &[u8],
         text: &str,
     ) -> Result<Bytes, Memory> {
+        let text = XmlText::from_str(alloc, text)?;
         match request_at(alloc, message)? {
             Request::Readable(addressing) => {
-                reply_text(alloc, me, key.group, key.number, Some(&addressing), text)
+                reply_text(alloc, me, key.group, key.number, Some(&addressing), &text)
             }
-            Request::Refused(_) => reply_text(alloc, me, key.group, key.number, None, text),
+            Request::Refused(_) => reply_text(alloc, me, key.group, key.number, None, &text),
         }
     }
 

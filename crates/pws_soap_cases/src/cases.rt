@@ -110,6 +110,34 @@ fn check_table(rt: &impl Abort, alloc: Global, table: &str) -> Result<u32, Fail>
     Ok(count)
 }
 
+/// The line of the case of this name.
+fn row_of<'a>(table: &'a str, name: &str) -> Option<&'a str> {
+    for line in table.lines() {
+        if let Some((first, _)) = line.split_once('\t') {
+            if first == name {
+                return Some(line);
+            }
+        }
+    }
+    None
+}
+
+/// The addressing of the envelope is that of the case of this name, and so is that of the reply.
+pub fn check_named(
+    rt: &impl Abort,
+    alloc: Global,
+    envelope: &Envelope,
+    name: &str,
+) -> Result<(), Fail> {
+    for table in [FIRST, SECOND, THIRD, FOURTH, TOOLKITS] {
+        if let Some(line) = row_of(table, name) {
+            let cells: Vec<&str> = line.split('\t').collect(alloc)?;
+            return check_addressing(rt, alloc, envelope, &cells);
+        }
+    }
+    Err(Fail::from("no case of this name"))
+}
+
 #[test]
 fn envelopes_and_their_addressing(rt: HostRuntime) -> Result<(), Fail> {
     let alloc = rt.alloc();

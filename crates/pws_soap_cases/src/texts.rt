@@ -1,5 +1,6 @@
-//! Texts as envelopes, and what is written back.
+//! Texts as envelopes, their addressing, and what is written back.
 
+use crate::cases::check_named;
 use crate::telling::soap_told;
 use crate::text_table::{FIRST, FOURTH, SECOND, THIRD};
 use pws_soap::reading::read_envelope;
@@ -19,7 +20,7 @@ fn check(rt: &impl Abort, alloc: Global, cells: &[&str]) -> Result<(), Fail> {
             let written = write_envelope(alloc, &envelope)?;
             let wanted = hex::decode(alloc, cells[3])?;
             assert!(rt; written.as_slice() == wanted.as_slice(), "{name}");
-            Ok(())
+            check_named(rt, alloc, &envelope, name)
         }
         Err(error) => {
             let told = soap_told(alloc, &error)?;
