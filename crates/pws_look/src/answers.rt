@@ -129,12 +129,7 @@ fn statement_words(
 }
 
 /// How much is attached.
-fn attached_words(
-    alloc: Global,
-    tags: usize,
-    body: &str,
-    vouchers: usize,
-) -> Result<String, Memory>
+fn attached_words(alloc: Global, tags: usize, body: &str, vouchers: usize) -> Result<String, Memory>
     ensures { IfOk result (λ words. string_bytes words ≡ attached_words tags body.now vouchers) }
 {
     Ok(format!(in alloc; "tags {tags} body {body} vouchers {vouchers}")?)

@@ -178,11 +178,7 @@ fn addressing_refusal(alloc: Global, error: &AddrError) -> Result<String, Memory
 }
 
 /// What is said of an envelope with this addressing.
-fn addressed(
-    alloc: Global,
-    envelope: &Envelope,
-    addressing: &Addressing,
-) -> Result<Answer, Memory>
+fn addressed(alloc: Global, envelope: &Envelope, addressing: &Addressing) -> Result<Answer, Memory>
     ensures { IfOk result (λ a. a ≡ addressed_answer envelope.now (Ok addressing.now)) }
 {
     let sizes = envelope_sizes(alloc, envelope)?;

@@ -62,11 +62,7 @@ enum LookError {
 }
 
 /// The report on what the source gives, of which there are to be at most 64 MiB.
-fn look<S: Source>(
-    alloc: Global,
-    command: Command,
-    source: &mut S,
-) -> Result<Report, LookError>
+fn look<S: Source>(alloc: Global, command: Command, source: &mut S) -> Result<Report, LookError>
     ensures told { LooksOn command (S.left source.old) result }
     ensures cause { LookCaused result (S.faults source.old) (S.faults source.new) }
 {

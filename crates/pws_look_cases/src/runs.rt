@@ -18,8 +18,7 @@ pub fn run(alloc: Global, words: &[&str], input: &[u8]) -> Result<(LookStatus, V
 #[test]
 fn a_good_event(rt: HostRuntime) -> Result<(), Fail> {
     let (status, written) = run(rt.alloc(), &["event"], b"\x03\x01\x00\x00\x00\x01")?;
-    let wanted =
-        "ok abort 1 1 8bc2905357693d244853b7f981302e593015e256b01ed9b4a6c683b01b355662\n";
+    let wanted = "ok abort 1 1 8bc2905357693d244853b7f981302e593015e256b01ed9b4a6c683b01b355662\n";
     assert_eq!(rt; written.as_slice(), wanted.as_bytes());
     assert_eq!(rt; status, LookStatus::Good);
     Ok(())
@@ -81,7 +80,10 @@ fn other_words(rt: HostRuntime) -> Result<(), Fail> {
     ] {
         let (status, written) = run(alloc, words, b"")?;
         assert_eq!(rt; status, LookStatus::Usage);
-        assert_eq!(rt; written.as_slice(), b"usage: pws-look event, packet, envelope, soap or script, and --lines\n");
+        assert_eq!(rt;
+            written.as_slice(),
+            b"usage: pws-look event, packet, envelope, soap or script, and --lines\n"
+        );
     }
     Ok(())
 }
