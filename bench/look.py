@@ -8,7 +8,13 @@ from measure import least
 
 RUNS = 3
 
+ENVELOPE = (
+    '<e:Envelope xmlns:e="http://www.w3.org/2003/05/soap-envelope" xmlns:w="http://www.w3.org/2005/08/addressing">'
+    "<e:Header><w:Action>urn:shop:order</w:Action></e:Header><e:Body><order>tea</order></e:Body></e:Envelope>"
+)
 TEXTS = {
+    "envelope": ENVELOPE.encode().hex(),
+    "soap": ENVELOPE.encode().hex(),
     "packet": "505753010000010000000f0100000001000000010000000268690100000000000000000000000000000000000000000000000000000000000000000000",
 }
 

@@ -1,3 +1,5 @@
+pub mod Counted
 pub mod Ended
 pub mod Reports
 pub mod Scripts
+pub mod Told

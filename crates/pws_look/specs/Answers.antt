@@ -20,15 +20,11 @@ use Rattle.pws_script.specs.declared.faults.ScriptError.{ScriptError}
 use Rattle.pws_script.specs.declared.faults.ScriptFault.{ScriptFault}
 use Rattle.pws_script.specs.declared.faults.ScriptFault.TheVariants as script_fault
 use Rattle.pws_script.specs.declared.instructions.Instruction.{Instruction}
+use Rattle.pws_look.specs.Envelopes.{EnvelopeAnswers, SoapAnswers}
+use Rattle.pws_look.specs.Good.{good, refused}
 use Rattle.pws_look.specs.declared.answers.Answer.{Answer}
 use Rattle.pws_look.specs.declared.words.Kind.{Kind}
 use Rattle.pws_look.specs.declared.words.Kind.TheVariants as kind
-
-abbrev pub good : List ℕ → Answer
-good line = record { line = line; good = true }
-
-abbrev pub refused : List ℕ → Answer
-refused line = record { line = line; good = false }
 
 -- ---- events
 
@@ -121,8 +117,10 @@ pub record ScriptAnswers (text : List ℕ) (a : Answer) : Type 0 where
 
 -- ---- all kinds
 
--- the answer to a text that is to be of this kind
-abbrev pub Answers : Kind → List ℕ → Answer → Type 0
-Answers kind.Event text a = a ≡ event_answer (event_of text)
-Answers kind.Packet text a = a ≡ packet_answer (packet_of text)
-Answers kind.Script text a = ScriptAnswers text a
+-- the answer to a text that is to be of this kind; whether it is one of the lines of the input
+abbrev pub Answers : Bool → Kind → List ℕ → Answer → Type 0
+Answers lines kind.Event text a = a ≡ event_answer (event_of text)
+Answers lines kind.Packet text a = a ≡ packet_answer (packet_of text)
+Answers lines kind.Script text a = ScriptAnswers text a
+Answers lines kind.Envelope text a = EnvelopeAnswers lines text a
+Answers lines kind.Soap text a = SoapAnswers text a

@@ -3,7 +3,8 @@ use Rattle.std.specs.Prelude.{◌≡◌, ℕ, Bool, true, false, ◌&&◌, List,
 use Rattle.std.specs.List.{list_all, AllZip}
 use Rattle.pws_sched.specs.Hexadecimal.{lower_hex}
 use Rattle.pws_script.specs.Lines.{TextLine, lines_of}
-use Rattle.pws_look.specs.Answers.{Answers, refused}
+use Rattle.pws_look.specs.Answers.{Answers}
+use Rattle.pws_look.specs.Good.{refused}
 use Rattle.pws_look.specs.declared.answers.Answer.{Answer}
 use Rattle.pws_look.specs.declared.lines.Report.{Report}
 use Rattle.pws_look.specs.declared.words.Kind.{Kind}
@@ -14,7 +15,7 @@ not_hexadecimal = refused (codes "not hexadecimal")
 
 abbrev pub TextAnswers : Kind → Option (List ℕ) → Answer → Type 0
 TextAnswers k None a = a ≡ not_hexadecimal
-TextAnswers k (Some text) a = Answers k text a
+TextAnswers k (Some text) a = Answers true k text a
 
 -- the answer to a line, which is to be a text in lower-case hexadecimal
 abbrev pub LineAnswers : Kind → List ℕ → Answer → Type 0
@@ -39,7 +40,7 @@ pub record ReportsLines (k : Kind) (input : List ℕ) (r : Report) : Type 0 wher
 -- the report on an input that is one text
 pub record ReportsWhole (k : Kind) (input : List ℕ) (r : Report) : Type 0 where
   pub answer : Answer
-  pub answers : Answers k input answer
+  pub answers : Answers false k input answer
   pub report : r ≡ report_of (answer ∷ [])
 
 abbrev pub ReportsBy : Bool → Kind → List ℕ → Report → Type 0

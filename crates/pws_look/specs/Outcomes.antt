@@ -16,7 +16,7 @@ pub record Outcome : Type 0 where
   pub text : List ℕ
 
 abbrev pub usage : Outcome
-usage = record { status = status.Usage; text = codes "usage: pws-look event, packet or script, and --lines\n" }
+usage = record { status = status.Usage; text = codes "usage: pws-look event, packet, envelope, soap or script, and --lines\n" }
 
 abbrev pub limit : Outcome
 limit = record { status = status.Limit; text = codes "input: limit\n" }

@@ -10,6 +10,8 @@ abbrev pub kind_named : List ℕ → Option Kind
 kind_named word =
     if bytes_eq word (codes "event") then Some kind.Event
     else if bytes_eq word (codes "packet") then Some kind.Packet
+    else if bytes_eq word (codes "envelope") then Some kind.Envelope
+    else if bytes_eq word (codes "soap") then Some kind.Soap
     else if bytes_eq word (codes "script") then Some kind.Script
     else None
 

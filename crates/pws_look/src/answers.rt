@@ -6,8 +6,10 @@ ghost use Rattle.std.specs.Prelude.{Ok, Err};
 ghost use Rattle.pws_event.specs.EventFields.{event_of};
 ghost use Rattle.pws_sched.specs.Words.{event_words};
 ghost use Rattle.pws_msg.specs.PacketFields.{packet_of};
-ghost use Rattle.pws_look.specs.Answers.{Answers, good, refused, event_line, event_answer, packet_answer, fault_word, script_word, content_name, body_words, statement_words, attached_words, packet_line, script_answer, ScriptAnswers};
+ghost use Rattle.pws_look.specs.Good.{good, refused};
+ghost use Rattle.pws_look.specs.Answers.{Answers, event_line, event_answer, packet_answer, fault_word, script_word, content_name, body_words, statement_words, attached_words, packet_line, script_answer, ScriptAnswers};
 
+use crate::envelopes::{envelope_answer, soap_answer};
 use crate::words::Kind;
 use pws_base::bytes::Bytes;
 use pws_base::fields::FieldError;
@@ -32,7 +34,7 @@ pub struct Answer {
 }
 
 /// A good text.
-fn good(line: String) -> Answer
+pub fn good(line: String) -> Answer
     ensures { result ≡ good (string_bytes line) }
 {
     Answer {
@@ -42,7 +44,7 @@ fn good(line: String) -> Answer
 }
 
 /// A refused text.
-fn refused(line: String) -> Answer
+pub fn refused(line: String) -> Answer
     ensures { result ≡ refused (string_bytes line) }
 {
     Answer {
@@ -127,12 +129,7 @@ fn statement_words(
 }
 
 /// How much is attached.
-fn attached_words(
-    alloc: Global,
-    tags: usize,
-    body: &str,
-    vouchers: usize,
-) -> Result<String, Memory>
+fn attached_words(alloc: Global, tags: usize, body: &str, vouchers: usize) -> Result<String, Memory>
     ensures { IfOk result (λ words. string_bytes words ≡ attached_words tags body.now vouchers) }
 {
     Ok(format!(in alloc; "tags {tags} body {body} vouchers {vouchers}")?)
@@ -224,17 +221,20 @@ fn script_answer(alloc: Global, text: &[u8]) -> Result<Answer, Memory>
     }
 }
 
-/// What is said of a text that is to be of this kind; docs/FORMATS.md has the lines.
+/// What is said of a text that is to be of this kind, and that is a line of the input or all of it; docs/FORMATS.md has
+/// the answers.
 ///
 /// # Errors
 ///
 /// `Memory` only.
-pub fn answer_to(alloc: Global, kind: Kind, text: &[u8]) -> Result<Answer, Memory>
-    ensures { IfOk result (Answers kind text.now) }
+pub fn answer_to(alloc: Global, lines: bool, kind: Kind, text: &[u8]) -> Result<Answer, Memory>
+    ensures { IfOk result (Answers lines kind text.now) }
 {
     match kind {
         Kind::Event => event_answer(alloc, text),
         Kind::Packet => packet_answer(alloc, text),
+        Kind::Envelope => envelope_answer(alloc, lines, text),
+        Kind::Soap => soap_answer(alloc, text),
         Kind::Script => script_answer(alloc, text),
     }
 }

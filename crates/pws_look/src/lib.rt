@@ -2,6 +2,7 @@
 //!
 //! - `words` reads the words of the program: a kind of text, and whether each line of the input is one.
 //! - `answers` has the answer to one text of each kind.
+//! - `envelopes` has those to texts of elements and envelopes.
 //! - `lines` has the answers to a whole input.
 //! - `statuses` has the statuses with which the program ends.
 //! - `top` has `look_main`, the top call: words and streams in, a status out.
@@ -12,6 +13,7 @@
 #![tactic(auto)]
 
 mod answers;
+mod envelopes;
 mod lines;
 pub mod statuses;
 mod top;

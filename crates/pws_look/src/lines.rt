@@ -57,7 +57,7 @@ fn line_answer(alloc: Global, kind: Kind, line: &[u8]) -> Result<Answer, Memory>
     ensures { IfOk result (LineAnswers kind line.now) }
 {
     match decode_lower(alloc, line) {
-        Ok(text) => answer_to(alloc, kind, text.as_slice()),
+        Ok(text) => answer_to(alloc, true, kind, text.as_slice()),
         Err(HexError::NotHexadecimal) => not_hexadecimal(alloc),
         Err(HexError::Memory) => Err(Memory),
     }
@@ -81,7 +81,7 @@ fn look_at_whole(alloc: Global, kind: Kind, input: &[u8]) -> Result<Report, Memo
     ensures { IfOk result (ReportsWhole kind input.now) }
 {
     let mut report = Report::new(alloc);
-    let answer = answer_to(alloc, kind, input)?;
+    let answer = answer_to(alloc, false, kind, input)?;
     report.add(&answer)?;
     Ok(report)
 }

@@ -14,8 +14,8 @@ use std::alloc::Global;
 
 /// Does all that the program `pws-look` does: reads texts from the source, and writes an answer a text to the sink.
 ///
-/// The words are those after the program's name: a kind of text, `event`, `packet` or `script`, and then `--lines`
-/// or nothing. Each status comes with its text, by docs/FORMATS.md:
+/// The words are those after the program's name: a kind of text, `event`, `packet`, `envelope`, `soap` or
+/// `script`, and then `--lines` or nothing. Each status comes with its text, by docs/FORMATS.md:
 ///
 /// - `Usage` and the usage line, exactly where the words aren't such;
 /// - `Good` or `Refused` and the answers, where they are and the source gives at most 64 MiB: with `--lines` to each
@@ -47,7 +47,7 @@ pub fn look_main<S: Source, K: Sink>(
         Some(command) => end(sink, look(alloc, command, source)),
         None => written(
             sink,
-            b"usage: pws-look event, packet or script, and --lines\n",
+            b"usage: pws-look event, packet, envelope, soap or script, and --lines\n",
             LookStatus::Usage,
         ),
     }
@@ -62,11 +62,7 @@ enum LookError {
 }
 
 /// The report on what the source gives, of which there are to be at most 64 MiB.
-fn look<S: Source>(
-    alloc: Global,
-    command: Command,
-    source: &mut S,
-) -> Result<Report, LookError>
+fn look<S: Source>(alloc: Global, command: Command, source: &mut S) -> Result<Report, LookError>
     ensures told { LooksOn command (S.left source.old) result }
     ensures cause { LookCaused result (S.faults source.old) (S.faults source.new) }
 {

@@ -10,6 +10,10 @@ pub enum Kind {
     Event,
     /// A packet, by the tables of packets and of contents there.
     Packet,
+    /// An element, by the profile of texts there.
+    Envelope,
+    /// A SOAP envelope with its addressing.
+    Soap,
     /// A script, by the table of instructions there.
     Script,
 }
@@ -29,6 +33,8 @@ fn kind_named(word: &str) -> Option<Kind>
     match word {
         "event" => Some(Kind::Event),
         "packet" => Some(Kind::Packet),
+        "envelope" => Some(Kind::Envelope),
+        "soap" => Some(Kind::Soap),
         "script" => Some(Kind::Script),
         _ => None,
     }

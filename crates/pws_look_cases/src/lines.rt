@@ -1,7 +1,7 @@
 //! Runs with `--lines`: each line of the input has one line of answer, in order.
 
 use crate::runs::run;
-use crate::tables::{EVENTS, PACKETS, SCRIPTS};
+use crate::tables::{ENVELOPES, EVENTS, PACKETS, SCRIPTS, SOAP};
 use pws_base::memory::Memory;
 use pws_look::statuses::LookStatus;
 use std::alloc::Global;
@@ -41,6 +41,16 @@ fn packets(rt: HostRuntime) -> Result<(), Fail> {
 #[test]
 fn scripts(rt: HostRuntime) -> Result<(), Fail> {
     check(&rt, "script", SCRIPTS)
+}
+
+#[test]
+fn envelopes(rt: HostRuntime) -> Result<(), Fail> {
+    check(&rt, "envelope", ENVELOPES)
+}
+
+#[test]
+fn soap(rt: HostRuntime) -> Result<(), Fail> {
+    check(&rt, "soap", SOAP)
 }
 
 #[test]

@@ -18,8 +18,7 @@ pub fn run(alloc: Global, words: &[&str], input: &[u8]) -> Result<(LookStatus, V
 #[test]
 fn a_good_event(rt: HostRuntime) -> Result<(), Fail> {
     let (status, written) = run(rt.alloc(), &["event"], b"\x03\x01\x00\x00\x00\x01")?;
-    let wanted =
-        "ok abort 1 1 8bc2905357693d244853b7f981302e593015e256b01ed9b4a6c683b01b355662\n";
+    let wanted = "ok abort 1 1 8bc2905357693d244853b7f981302e593015e256b01ed9b4a6c683b01b355662\n";
     assert_eq!(rt; written.as_slice(), wanted.as_bytes());
     assert_eq!(rt; status, LookStatus::Good);
     Ok(())
@@ -51,6 +50,24 @@ fn a_refused_script(rt: HostRuntime) -> Result<(), Fail> {
 }
 
 #[test]
+fn a_good_element(rt: HostRuntime) -> Result<(), Fail> {
+    let text = "<?xml version=\"1.0\"?><p:a xmlns:p='urn:x' c=\"1\"/>\n";
+    let (status, written) = run(rt.alloc(), &["envelope"], text.as_bytes())?;
+    let wanted = "<n0:a xmlns:n0=\"urn:x\" c=\"1\"></n0:a>\n";
+    assert_eq!(rt; written.as_slice(), wanted.as_bytes());
+    assert_eq!(rt; status, LookStatus::Good);
+    Ok(())
+}
+
+#[test]
+fn a_refused_element(rt: HostRuntime) -> Result<(), Fail> {
+    let (status, written) = run(rt.alloc(), &["envelope"], b"<a><b></a>")?;
+    assert_eq!(rt; written.as_slice(), b"Syntax at 8\n");
+    assert_eq!(rt; status, LookStatus::Refused);
+    Ok(())
+}
+
+#[test]
 fn other_words(rt: HostRuntime) -> Result<(), Fail> {
     let alloc = rt.alloc();
     for words in [
@@ -63,7 +80,10 @@ fn other_words(rt: HostRuntime) -> Result<(), Fail> {
     ] {
         let (status, written) = run(alloc, words, b"")?;
         assert_eq!(rt; status, LookStatus::Usage);
-        assert_eq!(rt; written.as_slice(), b"usage: pws-look event, packet or script, and --lines\n");
+        assert_eq!(rt;
+            written.as_slice(),
+            b"usage: pws-look event, packet, envelope, soap or script, and --lines\n"
+        );
     }
     Ok(())
 }
