@@ -44,6 +44,6 @@ fn the_input_is_too_long(rt: HostRuntime) -> Result<(), Fail> {
     let mut sink = MemorySink::new(alloc, 100, Vec::new(alloc))?;
     let status = look_main(alloc, &["event", "--lines"], &mut source, &mut sink);
     assert_eq!(rt; status, LookStatus::Limit);
-    assert_eq!(rt; sink.bytes(), b"input: limit\n");
+    assert_eq!(rt; sink.bytes(), b"input: limit\n".as_slice());
     Ok(())
 }

@@ -5,6 +5,7 @@ use crate::tables::{ENVELOPES, EVENTS, PACKETS, SCRIPTS, SOAP};
 use pws_base::memory::Memory;
 use pws_look::statuses::LookStatus;
 use std::alloc::Global;
+use std::process::Abort;
 use std::test::Fail;
 
 /// A cell of each case, a line each.
@@ -18,8 +19,7 @@ fn cells(alloc: Global, table: &str, place: usize) -> Result<String, Memory> {
 }
 
 /// What a table's lines give is what stands beside them; some of them are refused.
-fn check(rt: &HostRuntime, kind: &str, table: &str) -> Result<(), Fail> {
-    let alloc = rt.alloc();
+fn check(rt: &impl Abort, alloc: Global, kind: &str, table: &str) -> Result<(), Fail> {
     let input = cells(alloc, table, 0)?;
     let wanted = cells(alloc, table, 1)?;
     let (status, written) = run(alloc, &[kind, "--lines"], input.as_bytes())?;
@@ -30,27 +30,27 @@ fn check(rt: &HostRuntime, kind: &str, table: &str) -> Result<(), Fail> {
 
 #[test]
 fn events(rt: HostRuntime) -> Result<(), Fail> {
-    check(&rt, "event", EVENTS)
+    check(&rt, rt.alloc(), "event", EVENTS)
 }
 
 #[test]
 fn packets(rt: HostRuntime) -> Result<(), Fail> {
-    check(&rt, "packet", PACKETS)
+    check(&rt, rt.alloc(), "packet", PACKETS)
 }
 
 #[test]
 fn scripts(rt: HostRuntime) -> Result<(), Fail> {
-    check(&rt, "script", SCRIPTS)
+    check(&rt, rt.alloc(), "script", SCRIPTS)
 }
 
 #[test]
 fn envelopes(rt: HostRuntime) -> Result<(), Fail> {
-    check(&rt, "envelope", ENVELOPES)
+    check(&rt, rt.alloc(), "envelope", ENVELOPES)
 }
 
 #[test]
 fn soap(rt: HostRuntime) -> Result<(), Fail> {
-    check(&rt, "soap", SOAP)
+    check(&rt, rt.alloc(), "soap", SOAP)
 }
 
 #[test]

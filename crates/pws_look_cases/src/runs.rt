@@ -27,7 +27,7 @@ fn a_good_event(rt: HostRuntime) -> Result<(), Fail> {
 #[test]
 fn a_refused_event(rt: HostRuntime) -> Result<(), Fail> {
     let (status, written) = run(rt.alloc(), &["event"], b"\x00\n")?;
-    assert_eq!(rt; written.as_slice(), b"at 1\n");
+    assert_eq!(rt; written.as_slice(), b"at 1\n".as_slice());
     assert_eq!(rt; status, LookStatus::Refused);
     Ok(())
 }
@@ -36,7 +36,7 @@ fn a_refused_event(rt: HostRuntime) -> Result<(), Fail> {
 fn a_good_script(rt: HostRuntime) -> Result<(), Fail> {
     let text = "receive r0 r1\nreply r0 r1\njump 1 r2\n";
     let (status, written) = run(rt.alloc(), &["script"], text.as_bytes())?;
-    assert_eq!(rt; written.as_slice(), b"ok 3\n");
+    assert_eq!(rt; written.as_slice(), b"ok 3\n".as_slice());
     assert_eq!(rt; status, LookStatus::Good);
     Ok(())
 }
@@ -44,7 +44,7 @@ fn a_good_script(rt: HostRuntime) -> Result<(), Fail> {
 #[test]
 fn a_refused_script(rt: HostRuntime) -> Result<(), Fail> {
     let (status, written) = run(rt.alloc(), &["script"], b"stop\nstop 1\n")?;
-    assert_eq!(rt; written.as_slice(), b"line 2 Count\n");
+    assert_eq!(rt; written.as_slice(), b"line 2 Count\n".as_slice());
     assert_eq!(rt; status, LookStatus::Refused);
     Ok(())
 }
@@ -62,7 +62,7 @@ fn a_good_element(rt: HostRuntime) -> Result<(), Fail> {
 #[test]
 fn a_refused_element(rt: HostRuntime) -> Result<(), Fail> {
     let (status, written) = run(rt.alloc(), &["envelope"], b"<a><b></a>")?;
-    assert_eq!(rt; written.as_slice(), b"Syntax at 8\n");
+    assert_eq!(rt; written.as_slice(), b"Syntax at 8\n".as_slice());
     assert_eq!(rt; status, LookStatus::Refused);
     Ok(())
 }
@@ -82,7 +82,7 @@ fn other_words(rt: HostRuntime) -> Result<(), Fail> {
         assert_eq!(rt; status, LookStatus::Usage);
         assert_eq!(rt;
             written.as_slice(),
-            b"usage: pws-look event, packet, envelope, soap or script, and --lines\n"
+            b"usage: pws-look event, packet, envelope, soap or script, and --lines\n".as_slice()
         );
     }
     Ok(())
