@@ -5,6 +5,7 @@ use pws_base::memory_streams::{MemorySink, MemorySource};
 use pws_look::look_main;
 use pws_look::statuses::LookStatus;
 use std::alloc::Global;
+use std::process::Abort;
 use std::test::Fail;
 
 /// Looks with these words at an input: the status and the text that is written.
@@ -67,23 +68,24 @@ fn a_refused_element(rt: HostRuntime) -> Result<(), Fail> {
     Ok(())
 }
 
+/// These words are no command.
+fn check_usage(rt: &impl Abort, alloc: Global, words: &[&str]) -> Result<(), Fail> {
+    let (status, written) = run(alloc, words, b"")?;
+    assert_eq!(rt; status, LookStatus::Usage);
+    assert_eq!(rt;
+        written.as_slice(),
+        b"usage: pws-look event, packet, envelope, soap or script, and --lines\n".as_slice()
+    );
+    Ok(())
+}
+
 #[test]
 fn other_words(rt: HostRuntime) -> Result<(), Fail> {
     let alloc = rt.alloc();
-    for words in [
-        [].as_slice(),
-        ["events"].as_slice(),
-        ["--lines"].as_slice(),
-        ["--lines", "event"].as_slice(),
-        ["event", "lines"].as_slice(),
-        ["event", "--lines", "--lines"].as_slice(),
-    ] {
-        let (status, written) = run(alloc, words, b"")?;
-        assert_eq!(rt; status, LookStatus::Usage);
-        assert_eq!(rt;
-            written.as_slice(),
-            b"usage: pws-look event, packet, envelope, soap or script, and --lines\n".as_slice()
-        );
-    }
-    Ok(())
+    check_usage(&rt, alloc, &[])?;
+    check_usage(&rt, alloc, &["events"])?;
+    check_usage(&rt, alloc, &["--lines"])?;
+    check_usage(&rt, alloc, &["--lines", "event"])?;
+    check_usage(&rt, alloc, &["event", "lines"])?;
+    check_usage(&rt, alloc, &["event", "--lines", "--lines"])
 }
