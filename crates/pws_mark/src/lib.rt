@@ -20,7 +20,7 @@
 //!
 //! The contracts: `read_element` answers by `Reads`, the tree that the text stands for, or what comes first of all that
 //! refuses it, with its place. `write_element` gives the canonical text, `canonical`, of the tree; by the laws it stands
-//! for that tree, and no other tree has it. Nothing stands on this layer yet; the layer of envelopes will.
+//! for that tree, and no other tree has it. On this layer stands `pws_soap`, the envelopes.
 #![tactic(auto)]
 
 mod building;

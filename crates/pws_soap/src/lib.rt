@@ -1,4 +1,4 @@
-//! Envelopes and faults of SOAP 1.2, as trees.
+//! Envelopes and faults of SOAP 1.2, as trees and as texts.
 //!
 //! - `errors` tells why a tree is no envelope.
 //! - `names` has the names that SOAP 1.2 and WS-Addressing 1.0 give, and `white` takes white space from round a text.
