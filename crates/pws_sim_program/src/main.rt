@@ -4,43 +4,23 @@
 //! It has no contract of its own: it makes the real objects and hands them on. Nothing stands on it.
 #![tactic(auto)]
 
+use pws_arguments::{as_strs, given_words};
+use pws_base::memory::Memory;
 use pws_base::standard::{ReaderSource, WriterSink};
 use pws_sched::statuses::Status;
 use pws_sim::sim_main;
-use std::env;
-use std::io::ErrorKind;
 use std::process::ExitCode;
 
-/// Runs the simulator with these words on the standard streams.
-fn run(rt: &HostRuntime, words: &[&str]) -> Status {
+/// Runs the simulator with the words that the program was given on the standard streams.
+fn run(rt: &HostRuntime) -> Result<Status, Memory> {
+    let given = given_words(rt)?;
+    let words = as_strs(rt.alloc(), &given)?;
     let mut source = ReaderSource::new(rt.stdin());
     let mut sink = WriterSink::new(rt.stdout());
-    sim_main(rt.alloc(), words, &mut source, &mut sink)
-}
-
-/// Runs the simulator with the words that the program was given. Words that aren't UTF-8 are no command, as no
-/// words are.
-fn run_given(rt: &HostRuntime) -> Status {
-    let given = match env::args(rt) {
-        Ok(given) => given,
-        Err(error) if error.kind() == ErrorKind::OutOfMemory => return Status::Memory,
-        Err(_) => return run(rt, &[]),
-    };
-    let mut texts = Vec::new(rt.alloc());
-    for text in given.skip(1) {
-        if texts.push(text).is_err() {
-            return Status::Memory;
-        }
-    }
-    let mut words = Vec::new(rt.alloc());
-    for text in &texts {
-        if words.push(text.as_str()).is_err() {
-            return Status::Memory;
-        }
-    }
-    run(rt, &words)
+    Ok(sim_main(rt.alloc(), &words, &mut source, &mut sink))
 }
 
 fn main(rt: HostRuntime) -> ExitCode {
-    ExitCode::from(run_given(&rt).code())
+    let status = run(&rt).unwrap_or(Status::Memory);
+    ExitCode::from(status.code())
 }

@@ -1,0 +1,5 @@
+use Rattle.std.proofs.Common.{◌≡◌, map, string_bytes, take}
+use Rattle.pws_arguments.proofs.as_strs.Given as goal
+
+abbrev pub invariant-loop-word : goal.invariant-loop-word
+invariant-loop-word l = map (λ w. w.now) l.borrowed.items ≡ map string_bytes (take l.word-index l.words)
