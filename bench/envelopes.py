@@ -48,6 +48,11 @@ def long_namespace(length):
     return filled('<a xmlns:p="' + "u" * length + '"', numbered(' p:a{}=""'), "></a>")
 
 
+def elements_of(length):
+    """An element with inner elements, all of one namespace of so many bytes."""
+    return filled('<p:a xmlns:p="' + "u" * length + '">', iter(lambda: "<p:b/>", None), "</p:a>")
+
+
 def texts():
     name = "n" * 1000
     return [
@@ -62,6 +67,7 @@ def texts():
         ("namespaces of inner elements", filled("<a>", numbered('<p:b xmlns:p="u{}"/>'), "</a>")),
         ("attributes in a namespace of 1,000 bytes", long_namespace(1000)),
         ("attributes in a namespace of 16,000 bytes", long_namespace(16000)),
+        ("elements in a namespace of 16,000 bytes", elements_of(16000)),
     ]
 
 
