@@ -282,36 +282,39 @@ relations_speak (r ∷ rs) all =
     or_from (is_silent header.RelatesTo (relation_block r)) (list_any (is_silent header.RelatesTo) (map relation_block rs))
     (speaks header.RelatesTo (relation_block r) r.id (block_says header.RelatesTo (kind_attrs r.kind) r.id parts.0)) (relations_speak rs parts.1)
 
--- the texts of an addressing, header by header
-pub record AreSayable (a : Addressing) : Type 0 where
-  pub to : is_sayable a.to ≡ true
-  pub action : is_sayable a.action ≡ true
-  pub ids : list_all is_sayable (option_to_list a.message_id) ≡ true
-  pub relations : list_all is_sayable (map (λ (r : Relation). r.id) a.relates_to) ≡ true
-  pub replies : list_all is_sayable (option_to_list a.reply_to) ≡ true
-  pub from : list_all is_sayable (option_to_list a.from) ≡ true
-  pub faults : list_all is_sayable (option_to_list a.fault_to) ≡ true
+-- the texts of an addressing pass a test, header by header
+pub record HasTexts (p : List ℕ → Bool) (a : Addressing) : Type 0 where
+  pub to : p a.to ≡ true
+  pub action : p a.action ≡ true
+  pub ids : list_all p (option_to_list a.message_id) ≡ true
+  pub relations : list_all p (map (λ (r : Relation). r.id) a.relates_to) ≡ true
+  pub replies : list_all p (option_to_list a.reply_to) ≡ true
+  pub from : list_all p (option_to_list a.from) ≡ true
+  pub faults : list_all p (option_to_list a.fault_to) ≡ true
 
-split : (xs ys : List (List ℕ)) → list_all is_sayable (xs ++ ys) ≡ true → (list_all is_sayable xs ≡ true) × (list_all is_sayable ys ≡ true)
-split xs ys all = and_parts (list_all is_sayable xs) (list_all is_sayable ys) (sym (list_all-append is_sayable xs ys) ∙ all)
+abbrev pub AreSayable : Addressing → Type 0
+AreSayable a = HasTexts is_sayable a
 
-sayable : (a : Addressing) → list_all is_sayable (texts_of a) ≡ true → AreSayable a
-sayable a all =
+pub split : (p : List ℕ → Bool) (xs ys : List (List ℕ)) → list_all p (xs ++ ys) ≡ true → (list_all p xs ≡ true) × (list_all p ys ≡ true)
+split p xs ys all = and_parts (list_all p xs) (list_all p ys) (sym (list_all-append p xs ys) ∙ all)
+
+pub texts_parted : (p : List ℕ → Bool) (a : Addressing) → list_all p (texts_of a) ≡ true → HasTexts p a
+texts_parted p a all =
     let first : List (List ℕ) = a.to ∷ a.action ∷ [] in
     let ids : List (List ℕ) = option_to_list a.message_id in
     let rels : List (List ℕ) = map (λ (r : Relation). r.id) a.relates_to in
     let reps : List (List ℕ) = option_to_list a.reply_to in
     let from : List (List ℕ) = option_to_list a.from in
     let faults : List (List ℕ) = option_to_list a.fault_to in
-    let s5 = split (first ++ ids ++ rels ++ reps ++ from) faults all in
-    let s4 = split (first ++ ids ++ rels ++ reps) from s5.0 in
-    let s3 = split (first ++ ids ++ rels) reps s4.0 in
-    let s2 = split (first ++ ids) rels s3.0 in
-    let s1 = split first ids s2.0 in
-    let head = and_parts (is_sayable a.to) (is_sayable a.action && true) s1.0 in
+    let s5 = split p (first ++ ids ++ rels ++ reps ++ from) faults all in
+    let s4 = split p (first ++ ids ++ rels ++ reps) from s5.0 in
+    let s3 = split p (first ++ ids ++ rels) reps s4.0 in
+    let s2 = split p (first ++ ids) rels s3.0 in
+    let s1 = split p first ids s2.0 in
+    let head = and_parts (p a.to) (p a.action && true) s1.0 in
     record {
       to = head.0;
-      action = (and_parts (is_sayable a.action) true head.1).0;
+      action = (and_parts (p a.action) true head.1).0;
       ids = s1.1;
       relations = s2.1;
       replies = s3.1;
@@ -395,7 +398,7 @@ required_is false o all yes_b e = absurd (let i : ◌≡◌ {A = Bool} false tru
 pub put_is_read : PutIsRead
 unfolding addressing_of
 put_is_read headers a others all =
-    let ok : AreSayable a = sayable a all in
+    let ok : AreSayable a = texts_parted is_sayable a all in
     ap (single (headers ++ blocks_of a)) (none_twice headers a others)
     ∙ (required_is (list_any (is_block header.Action) (headers ++ blocks_of a)) (find (is_invalid (headers ++ blocks_of a)) all_headers) (headers ++ blocks_of a) (some_action headers a others) (none_invalid headers a others ok)
     ∙ ap (λ (x : Addressing). Ok x) (all_is headers a others ok))

@@ -1,8 +1,8 @@
--- Faults fit into a body.
-use Rattle.std.proofs.Common.{◌≡◌, ℕ, ◌+◌, ◌*◌, ◌<◌, ◌≤◌, ◌^◌, Bool, true, false, List, [], ◌∷◌, ◌++◌, length, refl, ap, arith, length-append}
-use Rattle.std.specs.Prelude.{if◌then◌else◌, Some, None, position, unwrap_or}
+-- What drivers make fits into a body.
+use Rattle.std.proofs.Common.{◌≡◌, ℕ, zero, suc, ◌+◌, ◌*◌, ◌/◌, ◌%◌, ◌<◌, ◌≤◌, ◌==◌, Bool, true, false, cond, List, [], ◌∷◌, ◌++◌, length, refl, ap, subst, arith, length-append}
+use Rattle.std.specs.Prelude.{if◌then◌else◌, Option, Some, None, position, unwrap_or}
 use Rattle.std.specs.List.{flat_map}
-use Rattle.std.specs.Fmt.{decimal}
+use Rattle.std.specs.Fmt.{decimal, digits, digits_onto, digit_glyph}
 use Rattle.std.specs.Str.{bytes_eq}
 use Rattle.std.proofs.lemmas.Bool.{leb-true}
 use Rattle.std.proofs.lemmas.Fmt.{length-decimal-le}
@@ -10,14 +10,14 @@ use Rattle.pws_tree.specs.Names.{envelope_space, value_word}
 use Rattle.pws_tree.specs.Trees.{Tree, NoNode}
 use Rattle.pws_mark.specs.Canonical.{xml_space, xml_word, declaration_word, declaration_text, value_byte, value_text, declarations_text, spaces_of, canonical}
 use Rattle.pws_soap.specs.Envelopes.{element_then, root_of}
-use Rattle.pws_soap.specs.Faults.{fault_tree, word_of}
+use Rattle.pws_soap.specs.Faults.{fault_tree, envelope_around, word_of}
 use Rattle.pws_soap.specs.Names.{envelope_word, header_word, body_word, fault_word, code_word, subcode_word, reason_word, text_word, lang_word, english, addressing_space}
 use Rattle.pws_addr.specs.Blocks.{blocks_of}
 use Rattle.pws_addr.specs.Causes.{fault_of, header_required, invalid_header}
-use Rattle.pws_addr.specs.Envelopes.{fault_action, fits, fault_envelope_text, fault_text, reply_envelope_text, reply_text}
+use Rattle.pws_addr.specs.Envelopes.{fault_action, fits, call_envelope_text, call_text, fault_envelope_text, fault_text, reply_envelope_text, reply_text, bare_fault_text}
 use Rattle.pws_addr.specs.Headers.{anonymous, header_local}
 use Rattle.pws_addr.specs.Identifiers.{reply_word, three_numbers}
-use Rattle.pws_addr.specs.Laws.{FaultsFit, RepliesFit}
+use Rattle.pws_addr.specs.Laws.{CallsFit, FaultsFit, BareFaultsFit, RepliesFit}
 use Rattle.pws_addr.proofs.Weights.{HasShortPrefixes, value_short, tree_weight, canonical_short}
 use Rattle.pws_addr.specs.declared.causes.Cause.{Cause}
 use Rattle.pws_addr.specs.declared.causes.Cause.TheVariants as cause
@@ -105,7 +105,7 @@ declared_short =
     )
 
 -- how long such a fault is at most
-root_light : (x : ℕ) (xs : List ℕ) (c : Cause) → length xs ≤ 100 → tree_weight (fault_root (x ∷ xs) c) ≤ 31768
+root_light : (x : ℕ) (xs : List ℕ) (c : Cause) → length xs ≤ 207 → tree_weight (fault_root (x ∷ xs) c) ≤ 31768
 unfolding envelope_space addressing_space anonymous fault_action header_local envelope_word header_word body_word fault_word code_word subcode_word reason_word text_word lang_word english value_word xml_space word_of fault_of header_required invalid_header
 root_light x xs cause.BadVersion few = omega arith
 root_light x xs cause.NotUnderstood few = omega arith
@@ -117,29 +117,117 @@ root_light x xs cause.ReplyTooLong few = omega arith
 root_light x xs cause.TimedOut few = omega arith
 root_light x xs cause.UnreadableReply few = omega arith
 
-root_short : (x : ℕ) (xs : List ℕ) (c : Cause) → length xs ≤ 100 → length (canonical (fault_root (x ∷ xs) c)) ≤ 32768
+root_short : (x : ℕ) (xs : List ℕ) (c : Cause) → length xs ≤ 207 → length (canonical (fault_root (x ∷ xs) c)) ≤ 32768
 root_short x xs c few = omega (arith, canonical_short both_spaces (fault_root (x ∷ xs) c) (spaces_are x xs c) short_prefixes, root_light x xs c few, declared_short)
 
-number_short : (k n : ℕ) → 0 < k → n < 10 ^ k → n < 2 ^ 64 → length (decimal n) ≤ k
-number_short k n some low small = length-decimal-le k n some low small
+-- a number has at most 64 digits, as numbers are written
+onto_either : (b : Bool) (xs ys : List ℕ) (k : ℕ) → length xs ≤ k → length ys ≤ k → length (cond b xs ys) ≤ k
+onto_either true xs ys k hx hy = hx
+onto_either false xs ys k hx hy = hy
 
-numbers_short : (a b c : ℕ) → a < 256 → b < 256 → c < 2 ^ 32 → length (three_numbers a b c) ≤ 50
-numbers_short a b c ha hb hc =
+onto_short : (k n : ℕ) (acc : List ℕ) → length (digits_onto k 10 false n acc) ≤ k + length acc
+onto_short zero n acc = omega arith
+onto_short (suc k) n acc =
+    let more = onto_short k (n / 10) (digit_glyph false (n % 10) ∷ acc) in
+    onto_either (n / 10 == 0) (digit_glyph false (n % 10) ∷ acc) (digits_onto k 10 false (n / 10) (digit_glyph false (n % 10) ∷ acc)) (suc k + length acc) (omega arith) (omega (arith, more))
+
+number_short : (n : ℕ) → length (decimal n) ≤ 64
+unfolding digits
+number_short n = let h = onto_short 64 n [] in omega (arith, h)
+
+numbers_short : (a b c : ℕ) → length (three_numbers a b c) ≤ 194
+numbers_short a b c =
     omega (
       arith,
       length-append (decimal a) (58 ∷ (decimal b ++ 58 ∷ decimal c)),
       length-append (decimal b) (58 ∷ decimal c),
-      number_short 3 a (omega arith) (omega arith) (omega arith),
-      number_short 3 b (omega arith) (omega arith) (omega arith),
-      number_short 10 c (omega arith) (omega arith) (omega arith),
+      number_short a,
+      number_short b,
+      number_short c,
     )
 
 -- the fault that answers a request without addressing
-unaddressed_short : (me caller number : ℕ) (c : Cause) → me < 256 → caller < 256 → number < 2 ^ 32 → length (fault_envelope_text me caller number None c) ≤ 32768
+pub unaddressed_short : (me caller number : ℕ) (c : Cause) → length (fault_envelope_text me caller number None c) ≤ 32768
 unfolding reply_word
-unaddressed_short me caller number c h1 h2 h3 =
-    root_short 117 (114 ∷ 110 ∷ 58 ∷ 112 ∷ 119 ∷ 115 ∷ 58 ∷ 114 ∷ 101 ∷ 112 ∷ 108 ∷ 121 ∷ 58 ∷ three_numbers me caller number) c
-    (omega (arith, numbers_short me caller number h1 h2 h3))
+unaddressed_short me caller number c =
+    root_short 117 (114 ∷ 110 ∷ 58 ∷ 112 ∷ 119 ∷ 115 ∷ 58 ∷ 114 ∷ 101 ∷ 112 ∷ 108 ∷ 121 ∷ 58 ∷ three_numbers me caller number) c (omega (arith, numbers_short me caller number))
+
+-- the root of a fault without header blocks, of which the subcode alone may be of another namespace than the envelope's
+abbrev pub bare_root : Cause → Tree
+bare_root c = root_of (envelope_around (fault_tree (fault_of c)))
+
+abbrev pub bare_spaces : Cause → List (List ℕ)
+bare_spaces cause.BadVersion = envelope_space ∷ []
+bare_spaces cause.NotUnderstood = envelope_space ∷ []
+bare_spaces cause.BadEnvelope = envelope_space ∷ []
+bare_spaces cause.NoAction = both_spaces
+bare_spaces cause.BadAddressing = both_spaces
+bare_spaces cause.Halted = envelope_space ∷ []
+bare_spaces cause.ReplyTooLong = envelope_space ∷ []
+bare_spaces cause.TimedOut = envelope_space ∷ []
+bare_spaces cause.UnreadableReply = envelope_space ∷ []
+
+bare_are : (c : Cause) → spaces_of (bare_root c) ≡ bare_spaces c
+unfolding envelope_space addressing_space xml_space fault_of
+bare_are cause.BadVersion = refl
+bare_are cause.NotUnderstood = refl
+bare_are cause.BadEnvelope = refl
+bare_are cause.NoAction = refl
+bare_are cause.BadAddressing = refl
+bare_are cause.Halted = refl
+bare_are cause.ReplyTooLong = refl
+bare_are cause.TimedOut = refl
+bare_are cause.UnreadableReply = refl
+
+-- with one namespace or with both
+record IsShort (spaces : List (List ℕ)) : Type 0 where
+  pub prefixes : HasShortPrefixes spaces
+  pub declared : length (declarations_text spaces) ≤ 1000
+
+one_prefix : (x b : Bool) → length (if x then xml_word else 110 ∷ decimal (unwrap_or (position (λ (y : Bool). y) (b ∷ [])) 0)) ≤ 4
+unfolding xml_word
+one_prefix true b = omega arith
+one_prefix false true = digit_short 0 (omega arith)
+one_prefix false false = digit_short 0 (omega arith)
+
+one_declared : declarations_text (envelope_space ∷ []) ≡ declaration_text (0, envelope_space) ++ []
+one_declared = refl
+
+one_short : IsShort (envelope_space ∷ [])
+one_short = record {
+  prefixes = record { short = λ space. one_prefix (bytes_eq space xml_space) (bytes_eq space envelope_space) };
+  declared = let none : List ℕ = [] in omega (arith, ap length one_declared, length-append (declaration_text (0, envelope_space)) none, declaration_short 0 envelope_space (omega arith), spaces_short);
+}
+
+both_short : IsShort both_spaces
+both_short = record { prefixes = short_prefixes; declared = declared_short }
+
+bare_short : (c : Cause) → IsShort (bare_spaces c)
+bare_short cause.BadVersion = one_short
+bare_short cause.NotUnderstood = one_short
+bare_short cause.BadEnvelope = one_short
+bare_short cause.NoAction = both_short
+bare_short cause.BadAddressing = both_short
+bare_short cause.Halted = one_short
+bare_short cause.ReplyTooLong = one_short
+bare_short cause.TimedOut = one_short
+bare_short cause.UnreadableReply = one_short
+
+bare_light : (c : Cause) → tree_weight (bare_root c) ≤ 31768
+unfolding envelope_space addressing_space envelope_word body_word fault_word code_word subcode_word reason_word text_word lang_word english value_word xml_space word_of fault_of header_required invalid_header
+bare_light cause.BadVersion = omega arith
+bare_light cause.NotUnderstood = omega arith
+bare_light cause.BadEnvelope = omega arith
+bare_light cause.NoAction = omega arith
+bare_light cause.BadAddressing = omega arith
+bare_light cause.Halted = omega arith
+bare_light cause.ReplyTooLong = omega arith
+bare_light cause.TimedOut = omega arith
+bare_light cause.UnreadableReply = omega arith
+
+pub bare_faults_fit : BareFaultsFit
+unfolding bare_fault_text
+bare_faults_fit c = omega (arith, canonical_short (bare_spaces c) (bare_root c) (bare_are c) (bare_short c).prefixes, bare_light c, (bare_short c).declared)
 
 if_fits : (text other : List ℕ) → length other ≤ 32768 → length (if fits text then text else other) ≤ 32768
 if_fits text other h = either (fits text) text other (λ e. leb-true (length text) 32768 e) h
@@ -150,10 +238,21 @@ if_fits text other h = either (fits text) text other (λ e. leb-true (length tex
 
 pub faults_fit : FaultsFit
 unfolding fault_text
-faults_fit me caller number addressing c h1 h2 h3 =
-    if_fits (fault_envelope_text me caller number addressing c) (fault_envelope_text me caller number None c) (unaddressed_short me caller number c h1 h2 h3)
+faults_fit me caller number addressing c =
+    if_fits (fault_envelope_text me caller number addressing c) (fault_envelope_text me caller number None c) (unaddressed_short me caller number c)
 
 pub replies_fit : RepliesFit
 unfolding reply_text
-replies_fit me caller number addressing text h1 h2 h3 =
-    if_fits (reply_envelope_text me caller number addressing text) (fault_envelope_text me caller number None cause.ReplyTooLong) (unaddressed_short me caller number cause.ReplyTooLong h1 h2 h3)
+replies_fit me caller number addressing text =
+    if_fits (reply_envelope_text me caller number addressing text) (fault_envelope_text me caller number None cause.ReplyTooLong) (unaddressed_short me caller number cause.ReplyTooLong)
+
+-- a call is made only where it fits
+some_fits : (b : Bool) (xs body : List ℕ) → (b ≡ true → length xs ≤ 32768) → (if b then Some xs else None) ≡ Some body → length body ≤ 32768
+some_fits true xs body h e = let same : xs ≡ body = cc in subst (λ (t : List ℕ). length t ≤ 32768) same (h refl)
+some_fits false xs body h e = absurd (let i : ◌≡◌ {A = Option (List ℕ)} None (Some body) = e in cc)
+
+pub calls_fit : CallsFit
+unfolding call_text
+calls_fit me called number text body e =
+    let whole : List ℕ = call_envelope_text me called number text in
+    some_fits (fits whole) whole body (λ h. leb-true (length whole) 32768 h) e

@@ -1,11 +1,14 @@
 pub mod Again
 pub mod Counting
+pub mod Exchanged
 pub mod Faults
 pub mod Fitting
 pub mod Lawful
 pub mod Messages
+pub mod Named
 pub mod Printable
 pub mod Said
 pub mod Sayable
 pub mod Trimmed
 pub mod Weights
+pub mod Written

@@ -9,9 +9,9 @@ use Rattle.std.proofs.lemmas.List.Folds.{list_all-append}
 use Rattle.std.proofs.lemmas.Slice.Eq.{bytes_eq-Decides}
 use Rattle.pws_tree.specs.Trees.{Tree, Nodes}
 use Rattle.pws_soap.specs.White.{trim}
-use Rattle.pws_addr.specs.Blocks.{holds_address, blocks_of}
+use Rattle.pws_addr.specs.Blocks.{holds_address}
 use Rattle.pws_addr.specs.Headers.{anonymous, header_name}
-use Rattle.pws_addr.specs.Laws.{is_sayable, texts_of, ReadIsReadAgain}
+use Rattle.pws_addr.specs.Laws.{is_sayable, texts_of, ReadIsSayable, ReadIsReadAgain}
 use Rattle.pws_addr.specs.Reading.{is_block, is_address, some_text, only_text, only_of, text_said, address_said, said, kind_said, relation_said, first_said, all_said, single_headers, all_headers, is_twice, is_invalid, valid, single, addressing_of}
 use Rattle.pws_soap.specs.Envelopes.{elements}
 use Rattle.pws_addr.specs.declared.headers.Header.{Header}
@@ -68,13 +68,13 @@ relations_can : (ts : List Tree) → list_all is_sayable (map (λ (r : Relation)
 relations_can [] = refl
 relations_can (t ∷ ts) = related_can (said header.RelatesTo t) (kind_said t.attrs) (filter_map relation_said ts) (said_can header.RelatesTo t) (relations_can ts)
 
-anonymous_can : is_sayable anonymous ≡ true
+pub anonymous_can : is_sayable anonymous ≡ true
 unfolding anonymous trim
 anonymous_can = refl
 
-or_anonymous : (o : Option (List ℕ)) → can_say o ≡ true → is_sayable (unwrap_or o anonymous) ≡ true
-or_anonymous None h = anonymous_can
-or_anonymous (Some t) h = (and_parts (is_sayable t) true h).0
+pub or_anonymous : (p : List ℕ → Bool) (o : Option (List ℕ)) → p anonymous ≡ true → list_all p (option_to_list o) ≡ true → p (unwrap_or o anonymous) ≡ true
+or_anonymous p None e h = e
+or_anonymous p (Some t) e h = (and_parts (p t) true h).0
 
 -- where there is an Action, and none says nothing, the first says a text
 or_nothing : (o : Option (List ℕ)) → can_say o ≡ true → is_some o ≡ true → is_sayable (unwrap_or o []) ≡ true
@@ -109,8 +109,8 @@ none_action p e =
     (passed (p header.Action) header.Action _ d).0
 
 -- the texts of what was read can be said
-joined : (xs ys : List (List ℕ)) → list_all is_sayable xs ≡ true → list_all is_sayable ys ≡ true → list_all is_sayable (xs ++ ys) ≡ true
-joined xs ys one two = list_all-append is_sayable xs ys ∙ and_from (list_all is_sayable xs) (list_all is_sayable ys) one two
+pub joined : (p : List ℕ → Bool) (xs ys : List (List ℕ)) → list_all p xs ≡ true → list_all p ys ≡ true → list_all p (xs ++ ys) ≡ true
+joined p xs ys one two = list_all-append p xs ys ∙ and_from (list_all p xs) (list_all p ys) one two
 
 all_can : (hs : List Tree) → is_some (first_said header.Action hs) ≡ true → list_all is_sayable (texts_of (all_said hs)) ≡ true
 all_can hs some =
@@ -122,38 +122,36 @@ all_can hs some =
     let from : List (List ℕ) = option_to_list a.from in
     let faults : List (List ℕ) = option_to_list a.fault_to in
     let two : list_all is_sayable first ≡ true =
-    and_from (is_sayable a.to) (is_sayable a.action && true) (or_anonymous (first_said header.To hs) (first_can header.To hs))
+    and_from (is_sayable a.to) (is_sayable a.action && true) (or_anonymous is_sayable (first_said header.To hs) anonymous_can (first_can header.To hs))
     (and_from (is_sayable a.action) true (or_nothing (first_said header.Action hs) (first_can header.Action hs) some) refl) in
-    joined (first ++ ids ++ rels ++ reps ++ from) faults
-    (joined (first ++ ids ++ rels ++ reps) from
-    (joined (first ++ ids ++ rels) reps
-    (joined (first ++ ids) rels
-    (joined first ids two (first_can header.MessageId hs))
+    joined is_sayable (first ++ ids ++ rels ++ reps ++ from) faults
+    (joined is_sayable (first ++ ids ++ rels ++ reps) from
+    (joined is_sayable (first ++ ids ++ rels) reps
+    (joined is_sayable (first ++ ids) rels
+    (joined is_sayable first ids two (first_can header.MessageId hs))
     (relations_can (filter (is_block header.RelatesTo) hs)))
     (first_can header.ReplyTo hs))
     (first_can header.From hs))
     (first_can header.FaultTo hs)
 
--- that there is an answer
-put_again : (hs : List Tree) (a : Addressing) → all_said hs ≡ a → is_some (first_said header.Action hs) ≡ true → addressing_of (blocks_of a) ≡ Ok a
-put_again hs a e some = put_is_read [] a refl (subst (λ (x : Addressing). list_all is_sayable (texts_of x) ≡ true) e (all_can hs some))
+-- what was read can be said
+valid_can : (hs : List Tree) (a : Addressing) (o : Option Header) → find (is_invalid hs) all_headers ≡ o → list_any (is_block header.Action) hs ≡ true → valid hs o ≡ Ok a → list_all is_sayable (texts_of a) ≡ true
+valid_can hs a None none some e =
+    let same : all_said hs ≡ a = let i : ◌≡◌ {A = Result Addressing AddrError} (Ok (all_said hs)) (Ok a) = e in cc in
+    subst (λ (x : Addressing). list_all is_sayable (texts_of x) ≡ true) same (all_can hs (action_speaks hs some (none_action (is_invalid hs) none)))
+valid_can hs a (Some h) none some e = absurd (let i : ◌≡◌ {A = Result Addressing AddrError} (Err (addr_error.Invalid (header_name h))) (Ok a) = e in cc)
 
-valid_again : (hs : List Tree) (a : Addressing) (o : Option Header) → find (is_invalid hs) all_headers ≡ o → list_any (is_block header.Action) hs ≡ true → valid hs o ≡ Ok a → addressing_of (blocks_of a) ≡ Ok a
-valid_again hs a None none some e =
-    put_again hs a (let i : ◌≡◌ {A = Result Addressing AddrError} (Ok (all_said hs)) (Ok a) = e in cc) (action_speaks hs some (none_action (is_invalid hs) none))
-valid_again hs a (Some h) none some e = absurd (let i : ◌≡◌ {A = Result Addressing AddrError} (Err (addr_error.Invalid (header_name h))) (Ok a) = e in cc)
+required_can : (hs : List Tree) (a : Addressing) (b : Bool) → list_any (is_block header.Action) hs ≡ b → (if b then valid hs (find (is_invalid hs) all_headers) else Err addr_error.Required) ≡ Ok a → list_all is_sayable (texts_of a) ≡ true
+required_can hs a true some e = valid_can hs a (find (is_invalid hs) all_headers) refl some e
+required_can hs a false some e = absurd (let i : ◌≡◌ {A = Result Addressing AddrError} (Err addr_error.Required) (Ok a) = e in cc)
 
-required_again : (hs : List Tree) (a : Addressing) (b : Bool) → list_any (is_block header.Action) hs ≡ b → (if b then valid hs (find (is_invalid hs) all_headers) else Err addr_error.Required) ≡ Ok a → addressing_of (blocks_of a) ≡ Ok a
-required_again hs a true some e = valid_again hs a (find (is_invalid hs) all_headers) refl some e
-required_again hs a false some e = absurd (let i : ◌≡◌ {A = Result Addressing AddrError} (Err addr_error.Required) (Ok a) = e in cc)
+single_can : (hs : List Tree) (a : Addressing) (o : Option Header) → single hs o ≡ Ok a → list_all is_sayable (texts_of a) ≡ true
+single_can hs a None e = required_can hs a (list_any (is_block header.Action) hs) refl e
+single_can hs a (Some h) e = absurd (let i : ◌≡◌ {A = Result Addressing AddrError} (Err (addr_error.Cardinality (header_name h))) (Ok a) = e in cc)
 
-single_again : (hs : List Tree) (a : Addressing) (o : Option Header) → single hs o ≡ Ok a → addressing_of (blocks_of a) ≡ Ok a
-single_again hs a None e = required_again hs a (list_any (is_block header.Action) hs) refl e
-single_again hs a (Some h) e = absurd (let i : ◌≡◌ {A = Result Addressing AddrError} (Err (addr_error.Cardinality (header_name h))) (Ok a) = e in cc)
-
-parts_again : (hs : List Tree) (a : Addressing) → addressing_of hs ≡ Ok a → addressing_of (blocks_of a) ≡ Ok a
+pub read_is_sayable : ReadIsSayable
 unfolding addressing_of
-parts_again hs a e = single_again hs a (find (is_twice hs) single_headers) e
+read_is_sayable hs a e = single_can hs a (find (is_twice hs) single_headers) e
 
 pub read_is_read_again : ReadIsReadAgain
-read_is_read_again hs a e = parts_again hs a e
+read_is_read_again hs a e = put_is_read [] a refl (read_is_sayable hs a e)

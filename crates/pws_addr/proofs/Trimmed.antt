@@ -40,7 +40,7 @@ end_gone p u = ap (suffix_len p) (end_is p u) ∙ (ap (prefix_len p) (reverse-re
 less_none : (n : ℕ) → n - 0 ≡ n
 less_none n = omega arith
 
-nothing_gone : (t : List ℕ) → prefix_len is_white t ≡ 0 → suffix_len is_white t ≡ 0 → trim t ≡ t
+pub nothing_gone : (t : List ℕ) → prefix_len is_white t ≡ 0 → suffix_len is_white t ≡ 0 → trim t ≡ t
 unfolding trim
 nothing_gone t s e =
     ap (λ n. trim_end (drop n t)) s ∙ (ap (λ n. take (length t - n) t) e ∙ (ap (λ n. take n t) (less_none (length t)) ∙ take-length t))

@@ -4,7 +4,7 @@ use Rattle.std.specs.Prelude.{ℕ, Bool, nat_le, if◌then◌else◌, List, [], 
 use Rattle.pws_tree.specs.Trees.{Tree, Nodes, NoNode}
 use Rattle.pws_tree.specs.declared.texts.Name.{Name}
 use Rattle.pws_mark.specs.Canonical.{canonical}
-use Rattle.pws_soap.specs.Envelopes.{element_then, root_of}
+use Rattle.pws_soap.specs.Envelopes.{Enveloped, element_then, root_of}
 use Rattle.pws_soap.specs.Faults.{text_nodes, fault_tree, envelope_around}
 use Rattle.pws_addr.specs.Blocks.{blocks_of}
 use Rattle.pws_addr.specs.Causes.{fault_of}
@@ -43,9 +43,12 @@ service_tree local children = record { name = service_name local; attrs = []; ch
 abbrev pub message_tree : List ℕ → List ℕ → Tree
 message_tree local text = service_tree local (element_then (service_tree text_local (text_nodes text)) NoNode)
 
--- the text of an envelope with this addressing round one element
+-- an envelope with this addressing round one element, and its text
+abbrev pub addressed : Addressing → Tree → Enveloped
+addressed a t = record { headers = blocks_of a; body = element_then t NoNode }
+
 abbrev pub envelope_text : Addressing → Tree → List ℕ
-envelope_text a t = canonical (root_of (record { headers = blocks_of a; body = element_then t NoNode }))
+envelope_text a t = canonical (root_of (addressed a t))
 
 -- a body has at most 32,768 bytes
 abbrev pub fits : List ℕ → Bool

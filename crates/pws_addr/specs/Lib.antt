@@ -1,9 +1,11 @@
 pub mod Blocks
 pub mod Causes
 pub mod Envelopes
+pub mod Equal
 pub mod Headers
 pub mod Identifiers
 pub mod Laws
 pub mod Reading
 pub mod Replies
 pub mod Requests
+pub mod Texts

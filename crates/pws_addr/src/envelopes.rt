@@ -326,16 +326,25 @@ pub fn reply_text(
     Ok(written)
 }
 
-/// The text of a fault that answers no request, without header blocks.
-///
-/// # Errors
-///
-/// `Memory` only.
+/// The text of a fault that answers no request.
 #[tactic(auto, unfolding(crate::specs::Envelopes::bare_fault_text))]
-pub fn bare_fault_text(alloc: Global, cause: Cause) -> Result<Bytes, Memory>
+fn bare_fault_given(alloc: Global, cause: Cause) -> Result<Bytes, Memory>
     ensures { IfOk result (λ text. text ≡ bare_fault_text cause) }
 {
     let fault = fault_of(alloc, cause)?;
     let envelope = fault_envelope(alloc, &fault)?;
     Ok(Bytes::from_vec(write_envelope(alloc, &envelope)?))
+}
+
+/// The text of a fault that answers no request, without header blocks. It has at most 32,768 bytes.
+///
+/// # Errors
+///
+/// `Memory` only.
+pub fn bare_fault_text(alloc: Global, cause: Cause) -> Result<Bytes, Memory>
+    ensures value { IfOk result (λ text. text ≡ bare_fault_text cause) }
+    ensures fits { IfOk result (λ text. length text ≤ 32768) }
+{
+    let text = bare_fault_given(alloc, cause)?;
+    Ok(text)
 }

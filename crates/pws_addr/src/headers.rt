@@ -168,3 +168,28 @@ impl ExactCopy for Addressing {
         })
     }
 }
+
+impl PartialEq for Addressing {
+    ghost use Rattle.std.specs.Cmp.{partial_equiv_from_equiv};
+    ghost use Rattle.pws_addr.specs.Equal.{same_addressing, same_equiv};
+
+    ghost eq = { same_addressing };
+
+    ghost laws = { partial_equiv_from_equiv same_equiv };
+
+    fn eq(&self, other: &Addressing) -> bool {
+        self.to == other.to
+            && self.action == other.action
+            && self.message_id == other.message_id
+            && self.relates_to.as_slice() == other.relates_to.as_slice()
+            && self.reply_to == other.reply_to
+            && self.from == other.from
+            && self.fault_to == other.fault_to
+    }
+}
+
+impl Eq for Addressing {
+    ghost use Rattle.pws_addr.specs.Equal.{same_equiv};
+
+    ghost laws = { same_equiv };
+}

@@ -4,18 +4,21 @@ use Rattle.std.proofs.Common.{◌≡◌, ℕ, ◌≤◌, true, false, not, ◌&&
 use Rattle.std.specs.Prelude.{if◌then◌else◌}
 use Rattle.std.specs.List.{list_all}
 use Rattle.std.specs.Str.{is_utf8, chars}
+use Rattle.std.proofs.lemmas.Bool.{le-leb}
 use Rattle.pws_tree.specs.Characters.{is_xml_text, is_local_name, xml_ranges, name_start_ranges, name_more_ranges}
 use Rattle.pws_tree.specs.Names.{is_lawful_name, is_lawful_attr, envelope_space, xmlns_space, xmlns_word, value_word}
-use Rattle.pws_tree.specs.Lawful.{is_lawful, is_lawful_tag, is_lawful_text, are_lawful, fits_name, has_qualified, is_one_qualified}
+use Rattle.pws_tree.specs.Lawful.{is_lawful, is_lawful_tag, is_lawful_text, are_lawful, fits_name, has_qualified, is_one_qualified, tree_depth}
 use Rattle.pws_tree.specs.Trees.{Tree, NoNode, QualifiedThen}
 use Rattle.pws_tree.specs.declared.texts.Name.{Name}
 use Rattle.pws_mark.specs.Canonical.{xml_space}
 use Rattle.pws_soap.specs.Names.{soap_name, fault_word, code_word, subcode_word, reason_word, text_word, lang_word, english}
 use Rattle.pws_soap.specs.Envelopes.{element_then}
 use Rattle.pws_soap.specs.Faults.{Faulted, is_lawful_subcode, word_of, value_tree, subcode_tree, subcode_nodes, code_nodes, code_tree, text_nodes, language, text_tree, reason_tree, fault_tree}
+use Rattle.pws_soap.specs.Laws.{FaultsAreLawful}
+use Rattle.pws_soap.specs.Made.{has_few_levels}
 use Rattle.pws_soap.specs.declared.faults.FaultCode.{FaultCode}
 use Rattle.pws_soap.specs.declared.faults.FaultCode.TheVariants as fault_code
-use Rattle.pws_soap.proofs.Joined.{both_true}
+use Rattle.pws_soap.proofs.Joined.{first_true, second_true, both_true}
 use Rattle.pws_soap.proofs.Lawful.{IsPlainWord, IsKept, IsPlain, none_plain, then_plain, soap_kept, kept_lawful}
 
 code_plain : IsPlainWord code_word
@@ -125,3 +128,9 @@ reason_lawful reason h = few_lawful 1 (reason_tree reason) (omega arith) (reason
 
 pub fault_lawful : (f : Faulted) → is_lawful_subcode f.subcode ≡ true → is_xml_text f.reason ≡ true → IsTrue (is_lawful (fault_tree f))
 fault_lawful f subcode reason = few_lawful 3 (fault_tree f) (omega arith) (fault_kept f subcode reason)
+
+pub faults_are_lawful : FaultsAreLawful
+faults_are_lawful f h =
+    let subcode = first_true (is_lawful_subcode f.subcode) (is_xml_text f.reason) h in
+    let reason = second_true (is_lawful_subcode f.subcode) (is_xml_text f.reason) h in
+    both_true (is_lawful (fault_tree f)) (has_few_levels (fault_tree f)) (fault_lawful f subcode reason) (le-leb (tree_depth (fault_tree f)) 62 (omega (arith, (fault_kept f subcode reason).few)))

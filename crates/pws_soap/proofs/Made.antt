@@ -6,6 +6,7 @@ use Rattle.pws_tree.specs.Lawful.{is_lawful, is_lawful_tag, are_lawful, levels, 
 use Rattle.pws_tree.specs.Trees.{Tree, Nodes, NoNode}
 use Rattle.pws_soap.specs.Envelopes.{Enveloped, elements, nodes_of_trees, soap_tree, root_of}
 use Rattle.pws_soap.specs.Faults.{envelope_around}
+use Rattle.pws_soap.specs.Laws.{RootsAreLawful}
 use Rattle.pws_soap.specs.Made.{has_few_levels, is_lawful_body, with_headers}
 use Rattle.pws_soap.proofs.Joined.{first_true, second_true, both_true}
 use Rattle.pws_soap.proofs.Lawful.{sound_of, few_of, lawful_of, IsKept, AreKept, IsPlain, none_plain, then_plain, trees_plain, soap_kept, header_plain, body_plain, root_kept}
@@ -61,6 +62,9 @@ kept_in_root e lawful =
 
 pub make_lawful : (headers : List Tree) (body : Nodes) → list_all is_lawful headers ≡ true → list_all has_few_levels headers ≡ true → is_lawful_body body ≡ true → IsTrue (is_lawful (root_of (record { headers = headers; body = body })))
 make_lawful headers body lawful few fits = root_kept (record { headers = headers; body = body }) (trees_kept headers lawful few) (body_plainly body fits)
+
+pub roots_are_lawful : RootsAreLawful
+roots_are_lawful e lawful few fits = make_lawful e.headers e.body lawful few fits
 
 pub root_few : (headers : List Tree) (body : Nodes) → IsTrue (is_lawful (root_of (record { headers = headers; body = body }))) → list_all has_few_levels headers ≡ true
 root_few headers body h = kept_few headers (kept_in_root (record { headers = headers; body = body }) h).headers

@@ -1,5 +1,5 @@
 -- Texts of envelopes.
-use Rattle.std.proofs.Common.{◌≡◌, ℕ, ◌≤◌, Bool, true, false, not, List, length, Option, Some, None, refl, ap, sym, ◌∙◌, IsTrue}
+use Rattle.std.proofs.Common.{◌≡◌, ℕ, Bool, true, false, not, List, Option, Some, None, refl, ap, sym, ◌∙◌, subst}
 use Rattle.std.specs.Prelude.{if◌then◌else◌, Result, Ok, Err}
 use Rattle.std.specs.List.{list_all, find}
 use Rattle.std.specs.Str.{bytes_eq}
@@ -8,11 +8,13 @@ use Rattle.pws_tree.specs.Trees.{Tree}
 use Rattle.pws_mark.specs.Canonical.{canonical}
 use Rattle.pws_mark.specs.CanonicalTexts.{CanonicalMayBeRead}
 use Rattle.pws_mark.specs.Reading.{Reads}
+use Rattle.pws_mark.specs.TreeOf.{tree_of, ReadingGivesTheTree}
 use Rattle.pws_mark.specs.declared.errors.MarkError.{MarkError}
+use Rattle.pws_mark.specs.declared.errors.ReadError.TheVariants as read_error
 use Rattle.pws_soap.specs.Blocks.{is_well_marked, is_not_understood}
 use Rattle.pws_soap.specs.Names.{envelope_word}
 use Rattle.pws_soap.specs.Envelopes.{Enveloped, root_of, in_order, understood, not_understood, envelope_of, Answers}
-use Rattle.pws_soap.specs.Reading.{ReadsTree, ReadsEnvelope, WrittenAreRead}
+use Rattle.pws_soap.specs.Reading.{ReadsTree, ReadsEnvelope, WrittenAreRead, NothingElseIsRead}
 use Rattle.pws_soap.specs.declared.errors.SoapError.{SoapError}
 use Rattle.pws_soap.specs.declared.errors.SoapError.TheVariants as soap_error
 use Rattle.pws_soap.proofs.Roots.{root_read}
@@ -62,6 +64,40 @@ reads_on text t (Err soap_error.Order) r a = (t, (r, a))
 reads_on text t (Err (soap_error.MustUnderstand n)) r a = (t, (r, a))
 reads_on text t (Err soap_error.Memory) r a = tt
 
+root_answer : (e : Enveloped) → list_all is_well_marked e.headers ≡ true → find is_not_understood e.headers ≡ None → envelope_of (root_of e) ≡ Ok e
+root_answer e marked none = root_read e ∙ (ap (λ b. understood (if b then Some e else None)) marked ∙ ap (not_understood e) none)
+
 pub written_read : CanonicalMayBeRead → WrittenAreRead
-written_read may_be_read e lawful few marked none =
-    (root_of e, (may_be_read (root_of e) lawful few, root_read e ∙ (ap (λ b. understood (if b then Some e else None)) marked ∙ ap (not_understood e) none)))
+written_read may_be_read e lawful few marked none = (root_of e, (may_be_read (root_of e) lawful few, root_answer e marked none))
+
+-- a text that is read as a tree is read as no other, and isn't refused
+one_tree : ReadingGivesTheTree → (text : List ℕ) (t u : Tree) → Reads text (Ok t) → Reads text (Ok u) → t ≡ u
+one_tree law text t u h g =
+    let first : tree_of text ≡ Some t = law text (Ok t) h in
+    let second : tree_of text ≡ Some u = law text (Ok u) g in
+    let both : ◌≡◌ {A = Option Tree} (Some t) (Some u) = sym first ∙ second in
+    cc
+
+not_refused : ReadingGivesTheTree → (text : List ℕ) (t : Tree) (e : MarkError) → Reads text (Ok t) → Reads text (Err (read_error.Mark e)) → ⊥
+not_refused law text t e h g =
+    let one : tree_of text ≡ Some t = law text (Ok t) h in
+    let none : tree_of text ≡ None = law text (Err (read_error.Mark e)) g in
+    let both : ◌≡◌ {A = Option Tree} None (Some t) = sym none ∙ one in
+    cc
+
+by_tree : ReadingGivesTheTree → (text : List ℕ) (t : Tree) (answer : Result Enveloped SoapError) → Reads text (Ok t) → ReadsTree text answer → Answers (envelope_of t) answer
+by_tree law text t answer h r = let P : Tree → Type 0 = λ u. Answers (envelope_of u) answer in subst P (one_tree law text r.0 t r.1.0 h) r.1.1
+
+for_tree : ReadingGivesTheTree → (text : List ℕ) (t : Tree) (answer : Result Enveloped SoapError) → Reads text (Ok t) → ReadsEnvelope text answer → Answers (envelope_of t) answer
+for_tree law text t (Ok e) h r = by_tree law text t (Ok e) h r
+for_tree law text t (Err (soap_error.Mark e)) h r = absurd (not_refused law text t e h r)
+for_tree law text t (Err soap_error.NotEnvelope) h r = by_tree law text t (Err soap_error.NotEnvelope) h r
+for_tree law text t (Err soap_error.Version) h r = by_tree law text t (Err soap_error.Version) h r
+for_tree law text t (Err soap_error.Order) h r = by_tree law text t (Err soap_error.Order) h r
+for_tree law text t (Err (soap_error.MustUnderstand n)) h r = by_tree law text t (Err (soap_error.MustUnderstand n)) h r
+for_tree law text t (Err soap_error.Memory) h r = tt
+
+pub nothing_else : CanonicalMayBeRead → ReadingGivesTheTree → NothingElseIsRead
+nothing_else may_be_read law e lawful few marked none answer r =
+    let P : Result Enveloped SoapError → Type 0 = λ wanted. Answers wanted answer in
+    subst P (root_answer e marked none) (for_tree law (canonical (root_of e)) (root_of e) answer (may_be_read (root_of e) lawful few) r)

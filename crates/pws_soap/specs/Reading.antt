@@ -26,3 +26,13 @@ abbrev pub WrittenAreRead : Type 0
 WrittenAreRead =
     (e : Enveloped) → IsTrue (is_lawful (root_of e)) → length (canonical (root_of e)) ≤ 32768 → IsTrue (list_all is_well_marked e.headers) → find is_not_understood e.headers ≡ None
     → ReadsEnvelope (canonical (root_of e)) (Ok e)
+
+-- whatever reading this text answers is this envelope, want of memory apart
+abbrev pub IsReadAs : List ℕ → Enveloped → Type 0
+IsReadAs text e = (answer : Result Enveloped SoapError) → ReadsEnvelope text answer → Answers (Ok e) answer
+
+-- and reading answers nothing else than the envelope that was written
+abbrev pub NothingElseIsRead : Type 0
+NothingElseIsRead =
+    (e : Enveloped) → IsTrue (is_lawful (root_of e)) → length (canonical (root_of e)) ≤ 32768 → IsTrue (list_all is_well_marked e.headers) → find is_not_understood e.headers ≡ None
+    → IsReadAs (canonical (root_of e)) e

@@ -1,6 +1,6 @@
 //! Laws of envelopes and faults. The functions do nothing: their contracts are the laws.
 
-ghost use Rattle.pws_soap.specs.Laws.{RootsAreRead, EnvelopesReadBack, RootsTellApart, FaultsTellApart};
+ghost use Rattle.pws_soap.specs.Laws.{RootsAreRead, EnvelopesReadBack, RootsTellApart, FaultsTellApart, RootsAreLawful, FaultsAreLawful};
 
 /// The root of an envelope is read as that envelope, where its header blocks are marked with truth values and none is
 /// refused.
@@ -21,4 +21,16 @@ pub fn roots_tell_apart()
 /// Two faults have one tree exactly where they are the same.
 pub fn faults_tell_apart()
     ensures { FaultsTellApart }
+{}
+
+/// Lawful header blocks of at most 62 levels and a lawful body make a root that is lawful.
+#[tactic(auto, using(crate::proofs::Made::roots_are_lawful))]
+pub fn roots_are_lawful()
+    ensures { RootsAreLawful }
+{}
+
+/// The tree of a lawful fault is lawful, and has at most 62 levels.
+#[tactic(auto, using(crate::proofs::FaultTrees::faults_are_lawful))]
+pub fn faults_are_lawful()
+    ensures { FaultsAreLawful }
 {}

@@ -1,12 +1,12 @@
 //! Reading an envelope from a text.
 
-ghost use Rattle.pws_soap.specs.Reading.{ReadsEnvelope, WrittenAreRead};
+ghost use Rattle.pws_soap.specs.Reading.{ReadsEnvelope, WrittenAreRead, NothingElseIsRead};
 
 use crate::envelopes::Envelope;
 use crate::errors::SoapError;
 use crate::opening::envelope_of;
 use pws_mark::errors::ReadError;
-use pws_mark::laws::canonical_may_be_read;
+use pws_mark::laws::{canonical_may_be_read, reading_gives_the_tree};
 use pws_mark::reading::read_element;
 use std::alloc::Global;
 
@@ -32,4 +32,12 @@ pub fn written_are_read()
     ensures { WrittenAreRead }
 {
     canonical_may_be_read();
+}
+
+/// And it answers nothing else for that text, want of memory apart.
+pub fn nothing_else_is_read()
+    ensures { NothingElseIsRead }
+{
+    canonical_may_be_read();
+    reading_gives_the_tree();
 }

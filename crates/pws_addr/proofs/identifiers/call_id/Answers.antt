@@ -1,4 +1,4 @@
-use Rattle.std.proofs.Common.{◌≡◌, arith, subst, IsTrue, rules, sym}
+use Rattle.std.proofs.Common.{◌≡◌, subst, IsTrue, rules, sym}
 use Rattle.pws_tree.specs.Characters.{is_xml_text}
 use Rattle.pws_addr.specs.Identifiers.{call_word, call_id}
 use Rattle.pws_addr.proofs.Printable.{call_xml}
@@ -8,4 +8,4 @@ pub from_str-requires : goal.from_str-requires
 unfolding call_word
 from_str-requires c =
     let e : c.as_str.result.now ≡ call_id c.args.caller c.args.called c.args.number = search rules in
-    subst (λ t. IsTrue (is_xml_text t)) (sym e) (call_xml c.args.caller c.args.called c.args.number (omega arith) (omega arith) (omega arith))
+    subst (λ t. IsTrue (is_xml_text t)) (sym e) (call_xml c.args.caller c.args.called c.args.number)
