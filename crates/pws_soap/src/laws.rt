@@ -1,6 +1,7 @@
 //! Laws of envelopes and faults. The functions do nothing: their contracts are the laws.
 
 ghost use Rattle.pws_soap.specs.Laws.{RootsAreRead, EnvelopesReadBack, RootsTellApart, FaultsTellApart};
+ghost use Rattle.pws_soap.specs.Reading.{OneEnvelope};
 
 /// The root of an envelope is read as that envelope, where its header blocks are marked with truth values and none is
 /// refused.
@@ -21,4 +22,10 @@ pub fn roots_tell_apart()
 /// Two faults have one tree exactly where they are the same.
 pub fn faults_tell_apart()
     ensures { FaultsTellApart }
+{}
+
+/// Reading gives one answer for a text, memory aside: one envelope, or one refusal.
+#[tactic(auto, using(crate::proofs::OneEnvelope::one_envelope))]
+pub fn one_envelope()
+    ensures { OneEnvelope }
 {}
