@@ -4,6 +4,7 @@ pub mod FaultTrees
 pub mod Joined
 pub mod Lawful
 pub mod Made
+pub mod OneEnvelope
 pub mod Read
 pub mod Roots
 pub mod Texts

@@ -21,6 +21,15 @@ ReadsEnvelope text (Err (soap_error.Mark e)) = Reads text (Err (read_error.Mark 
 ReadsEnvelope text (Err soap_error.Memory) = Unit {0}
 ReadsEnvelope text answer = ReadsTree text answer
 
+-- the want of memory is no answer
+abbrev pub IsTold : Result Enveloped SoapError → Type 0
+IsTold (Err soap_error.Memory) = ⊥
+IsTold answer = Unit {0}
+
+-- a text is read as one envelope, or refused for one cause
+abbrev pub OneEnvelope : Type 0
+OneEnvelope = (text : List ℕ) (a b : Result Enveloped SoapError) → IsTold a → IsTold b → ReadsEnvelope text a → ReadsEnvelope text b → a ≡ b
+
 -- reading may answer the envelope that was written
 abbrev pub WrittenAreRead : Type 0
 WrittenAreRead =

@@ -1,6 +1,7 @@
 //! Laws of envelopes and faults. The functions do nothing: their contracts are the laws.
 
 ghost use Rattle.pws_soap.specs.Laws.{RootsAreRead, EnvelopesReadBack, RootsTellApart, FaultsTellApart, RootsAreLawful, FaultsAreLawful};
+ghost use Rattle.pws_soap.specs.Reading.{OneEnvelope};
 
 /// The root of an envelope is read as that envelope, where its header blocks are marked with truth values and none is
 /// refused.
@@ -33,4 +34,10 @@ pub fn roots_are_lawful()
 #[tactic(auto, using(crate::proofs::FaultTrees::faults_are_lawful))]
 pub fn faults_are_lawful()
     ensures { FaultsAreLawful }
+{}
+
+/// Reading gives one answer for a text, memory aside: one envelope, or one refusal.
+#[tactic(auto, using(crate::proofs::OneEnvelope::one_envelope))]
+pub fn one_envelope()
+    ensures { OneEnvelope }
 {}
