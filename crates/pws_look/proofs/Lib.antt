@@ -1,5 +1,7 @@
 pub mod Counted
 pub mod Ended
+pub mod OneAnswer
+pub mod OneOutcome
 pub mod Reports
 pub mod Scripts
 pub mod Told

@@ -10,10 +10,10 @@ use Rattle.pws_mark.specs.declared.errors.MarkError.{MarkError}
 use Rattle.pws_mark.specs.declared.errors.ReadError.{ReadError}
 use Rattle.pws_mark.specs.declared.errors.ReadError.TheVariants as read_error
 use Rattle.pws_soap.specs.Envelopes.{Enveloped}
-use Rattle.pws_soap.specs.Reading.{ReadsEnvelope}
+use Rattle.pws_soap.specs.Reading.{ReadsEnvelope, IsTold}
 use Rattle.pws_soap.specs.declared.errors.SoapError.{SoapError}
 use Rattle.pws_tree.specs.Trees.{Tree}
-use Rattle.pws_look.specs.Envelopes.{envelope_answer, IsElement, EnvelopeAnswers, addressed_answer, IsWanted, soap_answer, IsTold, SoapAnswers}
+use Rattle.pws_look.specs.Envelopes.{envelope_answer, IsElement, EnvelopeAnswers, addressed_answer, IsWanted, soap_answer, SoapAnswers}
 use Rattle.pws_look.specs.declared.answers.Answer.{Answer}
 
 element_answers : (lines : Bool) (text : List ℕ) (r : Result Tree MarkError) (answer : Result Answer Memory) → IsElement text r → IfOk answer (λ a. a ≡ envelope_answer lines r) → IfOk answer (EnvelopeAnswers lines text)

@@ -12,7 +12,7 @@ use Rattle.pws_mark.specs.declared.errors.MarkKind.{MarkKind}
 use Rattle.pws_mark.specs.declared.errors.MarkKind.TheVariants as kind
 use Rattle.pws_mark.specs.declared.errors.ReadError.TheVariants as read_error
 use Rattle.pws_soap.specs.Envelopes.{Enveloped}
-use Rattle.pws_soap.specs.Reading.{ReadsEnvelope}
+use Rattle.pws_soap.specs.Reading.{ReadsEnvelope, IsTold}
 use Rattle.pws_soap.specs.declared.errors.SoapError.{SoapError}
 use Rattle.pws_soap.specs.declared.errors.SoapError.TheVariants as soap_error
 use Rattle.pws_tree.specs.Trees.{Tree, Nodes, NoNode, TextThen, QualifiedThen, ElementThen}
@@ -111,11 +111,6 @@ soap_refusal soap_error.Memory = []
 abbrev pub soap_answer : Result Enveloped SoapError → Answer
 soap_answer (Ok e) = addressed_answer e (addressing_of e.headers)
 soap_answer (Err x) = refused (soap_refusal x)
-
--- the want of memory is no answer
-abbrev pub IsTold : Result Enveloped SoapError → Type 0
-IsTold (Err soap_error.Memory) = ⊥
-IsTold read = Unit {0}
 
 pub record SoapAnswers (text : List ℕ) (a : Answer) : Type 0 where
   pub read : Result Enveloped SoapError

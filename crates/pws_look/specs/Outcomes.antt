@@ -35,6 +35,10 @@ abbrev pub IsOutcome : Option Command → List ℕ → Outcome → Type 0
 IsOutcome None bytes o = o ≡ usage
 IsOutcome (Some command) bytes o = IsOutcomeOf command bytes (nat_lt 67108864 (length bytes)) o
 
+-- words and bytes have one outcome at most
+abbrev pub OneOutcome : Type 0
+OneOutcome = (command : Option Command) (bytes : List ℕ) (o p : Outcome) → IsOutcome command bytes o → IsOutcome command bytes p → o ≡ p
+
 -- the run ended by this outcome, or by a fault of the sink, with a prefix of the text
 abbrev pub Ends : Outcome → Option (List ℕ) → Option (List ℕ) → LookStatus → Type 0
 Ends o held now status.WriteFault = GrowsWithin held now o.text

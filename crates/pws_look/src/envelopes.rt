@@ -2,8 +2,9 @@
 
 ghost use Rattle.std.specs.Prelude.{◌≡◌, IfOk, Ok, Err, string_bytes};
 ghost use Rattle.hex.specs.Hex.{encode_lower};
+ghost use Rattle.pws_soap.specs.Reading.{IsTold};
 ghost use Rattle.pws_tree.specs.Nodes.{nodes_of};
-ghost use Rattle.pws_look.specs.Envelopes.{mark_word, mark_words, envelope_line, envelope_answer, EnvelopeAnswers, node_count, name_words, header_words, body_words, envelope_sizes, target_words, target, addressing_refusal, addressed_answer, soap_refusal, soap_answer, SoapAnswers, IsTold, IsWanted};
+ghost use Rattle.pws_look.specs.Envelopes.{mark_word, mark_words, envelope_line, envelope_answer, EnvelopeAnswers, node_count, name_words, header_words, body_words, envelope_sizes, target_words, target, addressing_refusal, addressed_answer, soap_refusal, soap_answer, SoapAnswers, IsWanted};
 
 use crate::answers::{Answer, good, refused};
 use pws_addr::headers::Addressing;

@@ -6,6 +6,7 @@
 //! - `lines` has the answers to a whole input.
 //! - `statuses` has the statuses with which the program ends.
 //! - `top` has `look_main`, the top call: words and streams in, a status out.
+//! - `laws` has the law that words and bytes have one outcome at most.
 //!
 //! The one contract is that of `look_main`: over a source that tells its bytes and a sink that tells what it holds,
 //! status and text are those of the words and the bytes, by the definitions of the readers. The program
@@ -14,6 +15,7 @@
 
 mod answers;
 mod envelopes;
+pub mod laws;
 mod lines;
 pub mod statuses;
 mod top;
