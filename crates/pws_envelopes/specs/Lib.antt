@@ -1,5 +1,3 @@
-pub mod Bounds
-pub mod FaultsFit
 pub mod Fields
-pub mod Lengths
+pub mod Fits
 pub mod SoapWords

@@ -69,7 +69,7 @@ fn same_text(text: &Option<Bytes>, other: &Option<Bytes>) -> bool
 
 impl Envelopes for SoapEnvelopes {
     ghost use Rattle.pws_envelopes.specs.SoapWords.{soap_words};
-    ghost use Rattle.pws_envelopes.specs.FaultsFit.{soap_fits};
+    ghost use Rattle.pws_envelopes.specs.Fits.{soap_fits};
 
     ghost words = { soap_words };
 
