@@ -8,9 +8,10 @@ from measure import least
 
 RUNS = 3
 
+# An envelope so short that 200,000 lines of it are within the 64 MiB of an input.
 ENVELOPE = (
-    '<e:Envelope xmlns:e="http://www.w3.org/2003/05/soap-envelope" xmlns:w="http://www.w3.org/2005/08/addressing">'
-    "<e:Header><w:Action>urn:shop:order</w:Action></e:Header><e:Body><order>tea</order></e:Body></e:Envelope>"
+    '<Envelope xmlns="http://www.w3.org/2003/05/soap-envelope"><Header>'
+    '<Action xmlns="http://www.w3.org/2005/08/addressing">urn:tea</Action></Header><Body/></Envelope>'
 )
 TEXTS = {
     "envelope": ENVELOPE.encode().hex(),
