@@ -52,8 +52,11 @@ stopped bytes front rest s k utf8 short parts runs stops =
     subst (λ b. AreCauses b (found front ++ (stop_finds s b ++ (kind.Syntax, s.at + k) ∷ []))) same
     (stops_tell runs_begin runs_are_placed front rest s k scalars runs stops) in
     let least = some_lowered (found front ++ stop_finds s bytes) (kind.Syntax, s.at + k) in
-    inr (least.0, refused_by bytes (found front ++ (stop_finds s bytes ++ (kind.Syntax, s.at + k) ∷ [])) least.0 short utf8 causes
-    (ap (lowered None) (sym (append_assoc (found front) (stop_finds s bytes) ((kind.Syntax, s.at + k) ∷ []))) ∙ least.1))
+    inr (
+      least.0,
+      refused_by bytes (found front ++ (stop_finds s bytes ++ (kind.Syntax, s.at + k) ∷ [])) least.0 short utf8 causes
+          (ap (lowered None) (sym (append_assoc (found front) (stop_finds s bytes) ((kind.Syntax, s.at + k) ∷ []))) ∙ least.1),
+    )
 
 -- ---- or it comes to the end
 
