@@ -4,4 +4,5 @@ pub mod OneAnswer
 pub mod OneOutcome
 pub mod Reports
 pub mod Scripts
+pub mod SomeOutcome
 pub mod Told

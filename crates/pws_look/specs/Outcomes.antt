@@ -39,6 +39,10 @@ IsOutcome (Some command) bytes o = IsOutcomeOf command bytes (nat_lt 67108864 (l
 abbrev pub OneOutcome : Type 0
 OneOutcome = (command : Option Command) (bytes : List ℕ) (o p : Outcome) → IsOutcome command bytes o → IsOutcome command bytes p → o ≡ p
 
+-- and they have one
+abbrev pub SomeOutcome : Type 0
+SomeOutcome = (command : Option Command) (bytes : List ℕ) → (o : Outcome) × IsOutcome command bytes o
+
 -- the run ended by this outcome, or by a fault of the sink, with a prefix of the text
 abbrev pub Ends : Outcome → Option (List ℕ) → Option (List ℕ) → LookStatus → Type 0
 Ends o held now status.WriteFault = GrowsWithin held now o.text

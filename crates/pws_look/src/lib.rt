@@ -6,7 +6,7 @@
 //! - `lines` has the answers to a whole input.
 //! - `statuses` has the statuses with which the program ends.
 //! - `top` has `look_main`, the top call: words and streams in, a status out.
-//! - `laws` has the law that words and bytes have one outcome at most.
+//! - `laws` has the laws that words and bytes have one outcome.
 //!
 //! The one contract is that of `look_main`: over a source that tells its bytes and a sink that tells what it holds,
 //! status and text are those of the words and the bytes, by the definitions of the readers. The program

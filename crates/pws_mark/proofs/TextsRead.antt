@@ -39,7 +39,7 @@ unfolding is_utf8
 scalars_are bytes u = (and_parts (all_scalars (chars bytes)) (bytes_eq (encode_utf8_all (chars bytes)) bytes) (is_utf8-from_IsUtf8 bytes u)).0
 
 -- one character more
-run_one : (s t : State) (c : ℕ) → step s c ≡ Some t → run s (c ∷ []) ≡ Some t
+pub run_one : (s t : State) (c : ℕ) → step s c ≡ Some t → run s (c ∷ []) ≡ Some t
 unfolding run
 run_one s t c h = ap (λ z. then_run z (λ u. run u [])) h
 
@@ -63,7 +63,7 @@ found_one front s c runs =
     ∙ (map-append find_of (noted start front) (noted s (c ∷ []))
     ∙ ap (λ z. map find_of (noted start front) ++ z) (ap (map find_of) (noted_one s c) ∙ again (s.at + length (encode_utf8 c)) (finds s.mode s.outer c)))
 
-lowered_append : (least : Option MarkError) (xs ys : List (MarkKind × ℕ)) → lowered least (xs ++ ys) ≡ lowered (lowered least xs) ys
+pub lowered_append : (least : Option MarkError) (xs ys : List (MarkKind × ℕ)) → lowered least (xs ++ ys) ≡ lowered (lowered least xs) ys
 unfolding lowered
 lowered_append least xs ys = fold-append lower least xs ys
 
@@ -111,7 +111,7 @@ least_refuses bytes e short utf8 least = by e.kind least.cause
     by kind.Entity h = (short, utf8, least)
     by kind.Syntax h = (short, utf8, least)
 
-refused_by : (bytes : List ℕ) (fs : List (MarkKind × ℕ)) (e : MarkError) → length bytes ≤ 32768 → IsUtf8 bytes → AreCauses bytes fs → lowered None fs ≡ Some e → Reads bytes (Err (read_error.Mark e))
+pub refused_by : (bytes : List ℕ) (fs : List (MarkKind × ℕ)) (e : MarkError) → length bytes ≤ 32768 → IsUtf8 bytes → AreCauses bytes fs → lowered None fs ≡ Some e → Reads bytes (Err (read_error.Mark e))
 refused_by bytes fs e short utf8 causes is = least_refuses bytes e short utf8 (least_tells bytes fs e causes is)
 
 -- the reader stops at a character

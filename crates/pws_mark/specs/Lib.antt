@@ -1,3 +1,4 @@
+pub mod Answered
 pub mod Beginnings
 pub mod Bindings
 pub mod Canonical

@@ -1,5 +1,6 @@
 //! Laws of the canonical text, and of what texts stand for. The functions do nothing: their contracts are the laws.
 
+ghost use Rattle.pws_mark.specs.Answered.{TextsAreAnswered};
 ghost use Rattle.pws_mark.specs.CanonicalTexts.{CanonicalStands, CanonicalMayBeRead, CanonicalTellsApart, TextsAreUtf8};
 ghost use Rattle.pws_mark.specs.LawfulMeanings.{MeaningsAreLawful};
 ghost use Rattle.pws_mark.specs.TreeOf.{TreesAreMeant, ReadingGivesTheTree, OneRefusal};
@@ -43,4 +44,9 @@ pub fn reading_gives_the_tree()
 /// Reading refuses a text in one way.
 pub fn one_refusal()
     ensures { OneRefusal }
+{}
+
+/// Reading has an answer for each text that is no want of memory: its tree, or its refusal.
+pub fn texts_are_answered()
+    ensures { TextsAreAnswered }
 {}

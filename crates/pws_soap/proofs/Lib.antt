@@ -8,4 +8,5 @@ pub mod OneEnvelope
 pub mod Read
 pub mod Roots
 pub mod Texts
+pub mod TextsRead
 pub mod Cuts

@@ -30,6 +30,10 @@ IsTold answer = Unit {0}
 abbrev pub OneEnvelope : Type 0
 OneEnvelope = (text : List ℕ) (a b : Result Enveloped SoapError) → IsTold a → IsTold b → ReadsEnvelope text a → ReadsEnvelope text b → a ≡ b
 
+-- and each text is
+abbrev pub TextsAreRead : Type 0
+TextsAreRead = (text : List ℕ) → (a : Result Enveloped SoapError) × IsTold a × ReadsEnvelope text a
+
 -- reading may answer the envelope that was written
 abbrev pub WrittenAreRead : Type 0
 WrittenAreRead =

@@ -1,7 +1,7 @@
 //! Laws of envelopes and faults. The functions do nothing: their contracts are the laws.
 
 ghost use Rattle.pws_soap.specs.Laws.{RootsAreRead, EnvelopesReadBack, RootsTellApart, FaultsTellApart, RootsAreLawful, FaultsAreLawful};
-ghost use Rattle.pws_soap.specs.Reading.{OneEnvelope};
+ghost use Rattle.pws_soap.specs.Reading.{OneEnvelope, TextsAreRead};
 
 /// The root of an envelope is read as that envelope, where its header blocks are marked with truth values and none is
 /// refused.
@@ -40,4 +40,10 @@ pub fn faults_are_lawful()
 #[tactic(auto, using(crate::proofs::OneEnvelope::one_envelope))]
 pub fn one_envelope()
     ensures { OneEnvelope }
+{}
+
+/// Reading has an answer for each text that is no want of memory.
+#[tactic(auto, using(crate::proofs::TextsRead::texts_are_read))]
+pub fn texts_are_read()
+    ensures { TextsAreRead }
 {}
