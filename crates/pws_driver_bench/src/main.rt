@@ -1,5 +1,5 @@
-//! A program that gives requests to the runner of a script, for bench/runner.sh to measure: `echo` or `piled`, and how
-//! many requests. It prints how many replies came.
+//! A program that gives requests to the runner of a script, for bench/runner.sh to measure: `echo` or `piled`, how many
+//! requests, and how often so many, each time to a new runner. It prints how many replies came.
 //!
 //! The script `echo` answers each request at once. The script `piled` waits for the answer of a call meanwhile, so that
 //! no request is taken. Texts stand in the place of envelopes. The program has no contract of its own, and nothing
@@ -60,6 +60,15 @@ fn run(alloc: Global, text: &str, requests: u32) -> anyhow::Result<usize> {
     Ok(acts)
 }
 
+/// How many acts they bring over so many rounds.
+fn run_often(alloc: Global, text: &str, requests: u32, rounds: u32) -> anyhow::Result<usize> {
+    let mut acts = 0usize;
+    for _ in 0..rounds {
+        acts = acts.saturating_add(run(alloc, text, requests)?);
+    }
+    Ok(acts)
+}
+
 fn main(rt: HostRuntime) -> anyhow::Result<()> {
     let mut words = env::args(&rt)?.skip(1);
     let text = match words.next() {
@@ -76,7 +85,11 @@ fn main(rt: HostRuntime) -> anyhow::Result<()> {
         Some(word) => word.parse::<u32>()?,
         None => 1,
     };
-    let acts = run(rt.alloc(), text, requests)?;
+    let rounds = match words.next() {
+        Some(word) => word.parse::<u32>()?,
+        None => 1,
+    };
+    let acts = run_often(rt.alloc(), text, requests, rounds)?;
     println!(rt; "{acts}")?;
     Ok(())
 }
