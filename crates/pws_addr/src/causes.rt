@@ -6,6 +6,7 @@ ghost use Rattle.pws_addr.specs.Requests.{IsRefused, IsRequest};
 
 use crate::headers::{Addressing, addressing_name};
 use crate::reading::{AddrError, read_addressing};
+use pws_base::lists::ExactCopy;
 use pws_base::memory::Memory;
 use pws_soap::envelopes::Envelope;
 use pws_soap::errors::SoapError;
@@ -43,6 +44,15 @@ pub enum Request {
     Readable(Addressing),
     /// It is refused.
     Refused(Cause),
+}
+
+impl ExactCopy for Request {
+    fn copy(&self, alloc: Global) -> Result<Request, Memory> {
+        match self {
+            Request::Readable(addressing) => Ok(Request::Readable(addressing.copy(alloc)?)),
+            Request::Refused(cause) => Ok(Request::Refused(*cause)),
+        }
+    }
 }
 
 /// The code of the fault for a cause.

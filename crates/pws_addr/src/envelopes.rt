@@ -56,6 +56,7 @@ fn message_element(alloc: Global, local: &str, text: &XmlText) -> Result<Element
     requires { IsTrue (is_local_name local.now) }
     ensures { IfOk result (λ t. t ≡ message_tree local.now text.now) }
 {
+    // shows: the text has XML characters alone
     let _lawful = text.as_str();
     let name = service_name(alloc, local)?;
     let inner = text_element(alloc, text)?;

@@ -65,6 +65,7 @@ fn block_of(
     requires sorted { IsTrue (ascend attrs.items) }
     ensures { IfOk result (λ t. t ≡ block_of header attrs.items text.now) }
 {
+    // shows: the text has XML characters alone
     let _lawful = text.as_str();
     let name = header.name(alloc)?;
     let children = content_of(alloc, header, text)?;

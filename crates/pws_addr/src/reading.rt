@@ -12,7 +12,7 @@ ghost use Rattle.pws_addr.specs.Reading.{is_block, some_text, only_text, text_sa
 use crate::headers::{
     ALL_HEADERS, ANONYMOUS, Addressing, Header, REPLY_RELATION, Relation, SINGLE_HEADERS,
 };
-use pws_base::lists::Sequence;
+use pws_base::lists::{ExactCopy, Sequence};
 use pws_base::memory::Memory;
 use pws_soap::blocks::is_for_node;
 use pws_soap::envelopes::Envelope;
@@ -39,6 +39,17 @@ pub enum AddrError {
     /// There was no memory.
     #[error("out of memory")]
     Memory,
+}
+
+impl ExactCopy for AddrError {
+    fn copy(&self, alloc: Global) -> Result<AddrError, Memory> {
+        match self {
+            AddrError::Cardinality(name) => Ok(AddrError::Cardinality(name.copy(alloc)?)),
+            AddrError::Required => Ok(AddrError::Required),
+            AddrError::Invalid(name) => Ok(AddrError::Invalid(name.copy(alloc)?)),
+            AddrError::Memory => Ok(AddrError::Memory),
+        }
+    }
 }
 
 impl From<Memory> for AddrError {
@@ -88,6 +99,7 @@ fn text_said(element: &Element) -> Option<&str>
     ensures value { option_copied result ≡ text_said element.now.children }
     ensures lawful { IfSome result (λ text. IsTrue (is_xml_text text.now)) }
 {
+    // shows: an element is lawful
     let _lawful = element.depth();
     let text = only_text(element.children())?;
     some_text(trim(text.as_str()))
@@ -190,6 +202,7 @@ fn kind_said(block: &Element) -> &str
     ensures value { result.now ≡ kind_said block.now.attrs }
     ensures lawful { IsTrue (is_xml_text result.now) }
 {
+    // shows: an element is lawful
     let _lawful = block.depth();
     match relationship(block.attrs()) {
         Some(attr) => attr.value.as_str(),

@@ -1,13 +1,14 @@
 -- What a table has for two replicas.
-use Rattle.std.proofs.Common.{◌≡◌, ℕ, ◌+◌, ◌<◌, List, [], ◌∷◌, ◌++◌, map, length, get_or, slice_get, Option, Some, None, true, false, Bool, IsTrue, cond, refl, sym, ◌∙◌, ap, arith}
+use Rattle.std.proofs.Common.{◌≡◌, ℕ, ◌+◌, ◌<◌, ◌≤◌, List, [], ◌∷◌, ◌++◌, map, length, get_or, slice_get, Option, Some, None, true, false, Bool, IsTrue, cond, refl, sym, ◌∙◌, ap, arith}
 use Rattle.std.specs.FinMap.{get}
 use Rattle.std.specs.List.{list_all, range_with_len}
 use Rattle.std.specs.Option.{option_map_or}
 use Rattle.std.proofs.lemmas.List.Folds.{list_all_at}
-use Rattle.std.proofs.lemmas.List.FromFn.{length-range_with_len, get_or-range_with_len, map-range_with_len_more}
+use Rattle.std.proofs.lemmas.List.FromFn.{length-range_with_len, length-map-range_with_len, get_or-range_with_len, map-range_with_len_more}
 use Rattle.pws_base.specs.declared.shapes.ReplicaId.{ReplicaId}
 use Rattle.pws_base.specs.Shapes.{size_of_group}
-use Rattle.pws_auth.specs.Pairs.{pair_of, is_same}
+use Rattle.pws_base.specs.Replicas.{is_same}
+use Rattle.pws_auth.specs.Pairs.{pair_of}
 use Rattle.pws_auth.specs.Keys.{Keys, key_for, has_key, has_keys, can_seal}
 
 pub none_with_itself : (t : Keys) (a b : ReplicaId) → is_same a b ≡ true → ◌≡◌ {A = Option (List ℕ)} None (key_for t a b)
@@ -40,3 +41,9 @@ can_seal_at t s group f i c e h =
 pub rising_more : {X : Type 0} (f : ℕ → X) (i : ℕ) (old new : List X) (item : X) → old ≡ map f (range_with_len 0 i) → item ≡ f i → new ≡ old ++ item ∷ [] → new ≡ map f (range_with_len 0 (i + 1))
 rising_more f i old new item h e n =
     n ∙ ap (λ xs. xs ++ item ∷ []) h ∙ ap (λ x. map f (range_with_len 0 i) ++ x ∷ []) e ∙ sym (map-range_with_len_more f 0 i i (omega arith))
+
+-- what was made for the indices below i, of at most ten, is at most ten
+pub few_made : {X : Type 0} (f : ℕ → X) (i n : ℕ) (items : List X) → items ≡ map f (range_with_len 0 i) → i ≤ n → n ≤ 10 → length items ≤ 10
+few_made f i n items e h k =
+    let l : length items ≡ i = ap length e ∙ length-map-range_with_len f 0 i in
+    omega arith

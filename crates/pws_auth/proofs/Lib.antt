@@ -4,3 +4,4 @@ pub mod Maps
 pub mod Puts
 pub mod Rows
 pub mod Seeds
+pub mod Shared

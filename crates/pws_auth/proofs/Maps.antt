@@ -10,7 +10,8 @@ use Rattle.std.proofs.lemmas.Cmp.{on_total, then_total}
 use Rattle.std.proofs.lemmas.Map.Lookups.{CmpEqualImpliesEq, exact_unsigned, exact_pairs}
 use Rattle.pws_base.specs.declared.shapes.ReplicaId.{ReplicaId}
 use Rattle.pws_auth.specs.declared.pairs.Pair.{Pair}
-use Rattle.pws_auth.specs.Pairs.{replica_cmp, pair_cmp}
+use Rattle.pws_base.specs.Replicas.{replica_cmp}
+use Rattle.pws_auth.specs.Pairs.{pair_cmp}
 
 replicas_total : IsTotalOrder replica_cmp
 replicas_total = then_total (on_total (λ (r : ReplicaId). r.group) nat_cmp_total) (on_total (λ (r : ReplicaId). r.index) nat_cmp_total)

@@ -7,7 +7,9 @@ use Rattle.std.specs.FinMap.{insert, get, get-insert}
 use Rattle.std.specs.Ordering.{eq_by_cmp, is_eq}
 use Rattle.pws_base.specs.declared.shapes.ReplicaId.{ReplicaId}
 use Rattle.pws_auth.specs.declared.pairs.Pair.{Pair}
-use Rattle.pws_auth.specs.Pairs.{pair_of, pair_cmp, is_same, is_before, are_these}
+use Rattle.pws_base.specs.Replicas.{is_same, is_before}
+use Rattle.pws_auth.specs.Pairs.{pair_of, pair_cmp}
+use Rattle.pws_auth.specs.Steps.{are_these}
 use Rattle.pws_auth.specs.Keys.{Keys, key_for}
 use Rattle.pws_auth.specs.Steps.{added_pair}
 use Rattle.pws_auth.proofs.Maps.{pairs_total, pairs_exact}
@@ -38,7 +40,7 @@ turned_go false false a b h k =
     λ i. record { lesser = e i; greater = sym e i }
 
 -- a pair is the same whichever of its replicas is named first
-turned : (a b : ReplicaId) → pair_of a b ≡ pair_of b a
+pub turned : (a b : ReplicaId) → pair_of a b ≡ pair_of b a
 turned a b = turned_go (is_before b a) (is_before a b) a b refl refl
 
 these_go : (s t : Bool) (x y a b : ReplicaId) → (is_same x a && is_same y b) ≡ s → (is_same x b && is_same y a) ≡ t → s || t ≡ true → pair_of a b ≡ pair_of x y

@@ -10,14 +10,14 @@ use Rattle.std.proofs.lemmas.List.{take_more}
 use Rattle.std.proofs.lemmas.List.Folds.{list_any-append, list_any_at, list_all_more}
 use Rattle.pws_base.specs.declared.shapes.ReplicaId.{ReplicaId}
 use Rattle.pws_base.specs.Shapes.{has_replica}
-use Rattle.pws_auth.specs.Pairs.{is_same, is_among}
+use Rattle.pws_base.specs.Replicas.{is_same, is_among}
 use Rattle.pws_auth.specs.Keys.{Keys, key_for, Rows, is_named, are_distinct, row_key, key_of_rows, has_key, AreRowsOf, GivesRows, SealsForAll}
 use Rattle.pws_auth.specs.Steps.{added_pair, is_free, AddsRow}
 use Rattle.pws_auth.proofs.Found.{all_at}
 use Rattle.pws_auth.proofs.Seeds.{all_taken, key_of_empty, seals_for_all}
 use Rattle.pws_auth.proofs.Puts.{both, same_is, same_itself}
 
-same_turned : (a b : ReplicaId) → is_same a b ≡ is_same b a
+pub same_turned : (a b : ReplicaId) → is_same a b ≡ is_same b a
 same_turned a b = grind (arith, nat_tests)
 
 mapped : (x : Bool) (row : ReplicaId × List ℕ) (o : Option (ReplicaId × List ℕ)) → option_map (λ (r : ReplicaId × List ℕ). r.1) (cond x (Some row) o) ≡ cond x (Some row.1) (option_map (λ (r : ReplicaId × List ℕ). r.1) o)

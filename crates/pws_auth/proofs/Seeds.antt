@@ -8,7 +8,9 @@ use Rattle.std.proofs.lemmas.List.Folds.{list_any_more}
 use Rattle.std.proofs.Math.Seq.{take-length}
 use Rattle.pws_base.specs.declared.shapes.ReplicaId.{ReplicaId}
 use Rattle.pws_base.specs.Shapes.{has_replica, size_of_group}
-use Rattle.pws_auth.specs.Pairs.{pair_of, pair_cmp, is_same, is_among, are_these}
+use Rattle.pws_base.specs.Replicas.{is_same, is_among}
+use Rattle.pws_auth.specs.Pairs.{pair_of, pair_cmp}
+use Rattle.pws_auth.specs.Steps.{are_these}
 use Rattle.pws_auth.specs.Tags.{seed_key}
 use Rattle.pws_auth.specs.Keys.{Keys, key_for, key_of_seed, has_key, has_keys, SealsForAll}
 use Rattle.pws_auth.specs.Steps.{added_pair, added_by_seed}

@@ -12,7 +12,8 @@ use Rattle.pws_base.specs.Shapes.{has_replica, size_of_group}
 use Rattle.pws_auth.specs.declared.pairs.Pair.{Pair}
 use Rattle.pws_auth.specs.declared.tables.KeysError.{KeysError}
 use Rattle.pws_auth.specs.declared.tables.KeysError.TheVariants as keys_error
-use Rattle.pws_auth.specs.Pairs.{is_same, pair_of, pair_cmp}
+use Rattle.pws_base.specs.Replicas.{is_same, replica_code}
+use Rattle.pws_auth.specs.Pairs.{pair_of, pair_cmp}
 use Rattle.pws_auth.specs.Tags.{tag_of, seed_key}
 
 -- the layout of the groups, and the keys of pairs
@@ -21,9 +22,6 @@ pub record Keys : Type 0 where
   pub keys : FinMap pair_cmp (List ℕ)
 
 -- how a table is stored as a value: a pair as the pair of its replicas
-abbrev replica_code : Coded ReplicaId
-replica_code = code_by (ℕ × ℕ) (coded× coded_ℕ coded_ℕ) (λ r. (r.group, r.index)) (λ p. record { group = p.0; index = p.1 }) (λ _. refl)
-
 abbrev pair_code : Coded Pair
 pair_code = code_by (ReplicaId × ReplicaId) (coded× replica_code replica_code) (λ p. (p.lesser, p.greater)) (λ p. record { lesser = p.0; greater = p.1 }) (λ _. refl)
 
@@ -33,6 +31,10 @@ keys_code = code_by (List ℕ × FinMap pair_cmp (List ℕ)) (coded× (coded_lis
 -- the key of two replicas, whichever is named first; a replica has no key with itself
 unfoldable pub key_for : Keys → ReplicaId → ReplicaId → Option (List ℕ)
 key_for table a b = if is_same a b then None else get table.keys (pair_of a b)
+
+-- what a table is: the function that tells the key of each two replicas
+abbrev pub IsTable : Keys → (ReplicaId → ReplicaId → Option (List ℕ)) → Type 0
+IsTable table key = (a b : ReplicaId) → key_for table a b ≡ key a b
 
 -- whether a tag is that of the sender for the receiver over this content, under a key of the table
 abbrev pub is_tag : Keys → ReplicaId → ReplicaId → List ℕ → List ℕ → Bool
@@ -105,6 +107,6 @@ key_of_rows me rows a b =
 
 -- a table comes of rows as they ought to be, and has their keys; BadKeys comes of no such rows
 abbrev pub GivesRows : List ℕ → ReplicaId → Rows → Result Keys KeysError → Type 0
-GivesRows layout me rows (Ok table) = AreRowsOf layout me rows × ((a b : ReplicaId) → key_for table a b ≡ key_of_rows me rows a b)
+GivesRows layout me rows (Ok table) = AreRowsOf layout me rows × IsTable table (key_of_rows me rows)
 GivesRows layout me rows (Err keys_error.BadKeys) = ¬ AreRowsOf layout me rows
 GivesRows layout me rows (Err keys_error.Memory) = Unit {0}

@@ -1,10 +1,11 @@
--- How a table is filled: the keys of a seed one replica after the other, and rows one after the other.
+-- For proofs alone: how a table is filled, the keys of a seed one replica after the other, and rows one after the other.
 use Rattle.std.specs.Prelude.{◌≡◌, ℕ, Bool, true, false, ◌&&◌, ◌||◌, not, if◌then◌else◌, List, is_some, Option, Some, Result, Ok, Err}
 use Rattle.pws_base.specs.declared.shapes.ReplicaId.{ReplicaId}
 use Rattle.pws_base.specs.Shapes.{has_replica}
 use Rattle.pws_auth.specs.declared.tables.KeysError.{KeysError}
 use Rattle.pws_auth.specs.declared.tables.KeysError.TheVariants as keys_error
-use Rattle.pws_auth.specs.Pairs.{is_same, is_among, are_these, pair_of}
+use Rattle.pws_base.specs.Replicas.{is_same, is_among}
+use Rattle.pws_auth.specs.Pairs.{pair_of}
 use Rattle.pws_auth.specs.Tags.{seed_key}
 use Rattle.pws_auth.specs.Keys.{Keys, key_for}
 
@@ -12,6 +13,10 @@ use Rattle.pws_auth.specs.Keys.{Keys, key_for}
 abbrev pub added_by_seed : List ℕ → ReplicaId → List ReplicaId → ReplicaId → ReplicaId → Option (List ℕ) → Option (List ℕ)
 added_by_seed seed member others a b before =
     if not (is_same a b) && ((is_same member a && is_among others b) || (is_same member b && is_among others a)) then Some (seed_key seed (pair_of a b)) else before
+
+-- whether two replicas are these two, whichever is named first
+abbrev pub are_these : ReplicaId → ReplicaId → ReplicaId → ReplicaId → Bool
+are_these x y a b = (is_same x a && is_same y b) || (is_same x b && is_same y a)
 
 -- the key of two replicas after these two got this key
 abbrev pub added_pair : ReplicaId → ReplicaId → List ℕ → ReplicaId → ReplicaId → Option (List ℕ) → Option (List ℕ)

@@ -3,7 +3,7 @@
 ghost use Rattle.std.specs.Prelude.{◌≡◌, ℕ, ◌==◌, ◌&&◌, ◌||◌, nat_lt, IfOk, OnOk};
 ghost use Rattle.pws_base.specs.declared.shapes.ReplicaId.{ReplicaId};
 ghost use Rattle.pws_base.specs.Shapes.{has_replica};
-ghost use Rattle.pws_auth.specs.Pairs.{is_among};
+ghost use Rattle.pws_base.specs.Replicas.{is_among};
 
 use pws_base::memory::Memory;
 use pws_base::shapes::{GroupId, Layout, ReplicaId};

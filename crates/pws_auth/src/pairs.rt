@@ -8,7 +8,9 @@ use pws_base::shapes::ReplicaId;
 /// Two replicas; `Pair::of` puts the lesser by group and index first.
 #[derive(Clone, Copy, Debug, PartialEq, Eq, PartialOrd, Ord)]
 pub struct Pair {
+    /// The one of the lower group, or of the lower index where the groups are one.
     pub lesser: ReplicaId,
+    /// The other one.
     pub greater: ReplicaId,
 }
 

@@ -1,6 +1,6 @@
 //! Tables of the keys that pairs of replicas share.
 
-ghost use Rattle.std.specs.Prelude.{◌≡◌, ◌↔◌, ℕ, List, IsTrue, IfOk, OnOk, is_some, slice_get};
+ghost use Rattle.std.specs.Prelude.{◌≡◌, ◌≤◌, ◌↔◌, ℕ, List, length, IsTrue, IfOk, OnOk, is_some, slice_get};
 ghost use Rattle.std.specs.Option.{option_copied};
 ghost use Rattle.std.specs.FinMap.{insert, empty};
 ghost use Rattle.std.specs.List.{list_all};
@@ -9,7 +9,7 @@ ghost use Rattle.pws_base.specs.declared.shapes.ReplicaId.{ReplicaId};
 ghost use Rattle.pws_base.specs.Shapes.{has_replica};
 ghost use Rattle.pws_auth.specs.Tags.{tag_of, seed_key};
 ghost use Rattle.pws_auth.specs.Pairs.{pair_of};
-ghost use Rattle.pws_auth.specs.Keys.{key_for, has_key, has_keys, can_seal, tag_for, tags_for, is_tag, IsTag, key_of_seed, GivesRows, SealsForAll};
+ghost use Rattle.pws_auth.specs.Keys.{key_for, has_key, has_keys, can_seal, tag_for, tags_for, is_tag, IsTable, IsTag, key_of_seed, GivesRows, SealsForAll};
 ghost use Rattle.pws_auth.specs.Steps.{added_by_seed, is_free, AddsRow};
 
 use crate::codes::hmac_of_pieces;
@@ -77,7 +77,9 @@ fn seed_key(seed: &[u8; 32], pair: Pair) -> Key
 /// Contracts see it as `Keys`; `key_for` tells the key of two replicas.
 #[derive(Drop)]
 pub struct KeyTable {
+    /// The layout whose groups contents are sealed for.
     layout: Layout,
+    /// The key of each pair that has one; no pair is of one replica twice.
     keys: BTreeMap<Pair, Key>,
 }
 
@@ -137,7 +139,7 @@ impl KeyTable {
     /// `Memory` only.
     pub fn from_seed(alloc: Global, layout: &Layout, seed: &[u8; 32]) -> Result<KeyTable, Memory>
         ensures layout { IfOk result (λ table. table.layout ≡ layout.now) }
-        ensures keys { IfOk result (λ table. (a b : ReplicaId) → key_for table a b ≡ key_of_seed layout.now seed.now a b) }
+        ensures keys { IfOk result (λ table. IsTable table (key_of_seed layout.now seed.now)) }
         ensures seals { IfOk result (λ table. (a : ReplicaId) → IsTrue (has_replica layout.now a) → SealsForAll table a) }
     {
         let members = members_of(alloc, layout)?;
@@ -258,8 +260,8 @@ impl KeyTable {
         }
     }
 
-    /// The tags of a sender over a content for the replicas of a group, rising by index. The sender's own place
-    /// is 32 zero bytes.
+    /// The tags of a sender over a content for the replicas of a group, rising by index, at most ten. The sender's own
+    /// place is 32 zero bytes.
     ///
     /// # Errors
     ///
@@ -272,7 +274,8 @@ impl KeyTable {
         group: GroupId,
     ) -> Result<Sequence<Tag>, Memory>
         requires { IsTrue (can_seal self.now sender group) }
-        ensures { IfOk result (λ tags. tags ≡ tags_for self.now sender content.now group) }
+        ensures value { IfOk result (λ tags. tags ≡ tags_for self.now sender content.now group) }
+        ensures few { IfOk result (λ tags. length tags ≤ 10) }
     {
         let Some(shape) = self.shape(group) else {
             unreachable!()

@@ -1,3 +1,9 @@
 pub mod Carried
+pub mod DecimalLemmas
 pub mod Known
+pub mod LineLemmas
+pub mod Maps
+pub mod Members
+pub mod PieceLemmas
+pub mod ReplicaOrder
 pub mod Stored

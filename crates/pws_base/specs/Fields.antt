@@ -2,6 +2,7 @@
 -- (network byte order, RFC 1700). The ranges and the refusals are this project's own.
 use Rattle.std.specs.Prelude.{◌≡◌, ℕ, ◌+◌, ◌<◌, ◌&&◌, ◌==◌, nat_lt, nat_le, if◌then◌else◌, List, [], length, take, drop, Result, Ok, Err}
 use Rattle.std.specs.Int.{from_be_bytes, w8, w32, w64}
+use Rattle.pws_base.specs.Limits.{max_number, max_body}
 use Rattle.pws_base.specs.declared.fields.FaultKind.{FaultKind}
 use Rattle.pws_base.specs.declared.fields.FaultKind.TheVariants.{Short, Range, Rest}
 use Rattle.pws_base.specs.declared.fields.FieldFault.{FieldFault}
@@ -68,10 +69,10 @@ index_field u = u8_within 0 9 u
 
 -- a number, a place or an ask, 1 to 1,000,000; a view or a low mark, 0 to 1,000,000
 abbrev pub number_field : Unread → Result (ℕ × Unread) FieldFault
-number_field u = u32_within 1 1000000 u
+number_field u = u32_within 1 max_number u
 
 abbrev pub view_field : Unread → Result (ℕ × Unread) FieldFault
-view_field u = u32_within 0 1000000 u
+view_field u = u32_within 0 max_number u
 
 -- bytes after their length, at most so many: one field, so that each refusal stands at the length's first byte;
 -- Range where the length is above the bound, whether or not the bytes are whole
@@ -82,7 +83,7 @@ sized_field bound u = do
 
 -- a body, of at most 32,768 bytes
 abbrev pub body_field : Unread → Result (List ℕ × Unread) FieldFault
-body_field u = sized_field 32768 u
+body_field u = sized_field max_body u
 
 -- the value that was read, where no byte is left over; Rest at the first that is
 abbrev pub ended : {A : Type 0} → A × Unread → Result A FieldFault

@@ -1,9 +1,16 @@
 pub mod Calls
 pub mod Counts
 pub mod Cursors
+pub mod Decimals
 pub mod Fields
+pub mod Laws
+pub mod Limits
+pub mod Lines
 pub mod Padded
+pub mod Places
+pub mod Replicas
 pub mod Shapes
+pub mod Sound
 pub mod Streams
 pub mod Texts
 pub mod Whole

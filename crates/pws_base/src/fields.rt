@@ -2,7 +2,9 @@
 
 ghost use Rattle.std.specs.Prelude.{◌≡◌, ◌+◌, ◌<◌, ◌≤◌, ◌^◌, length, OnErr, IfOk};
 ghost use Rattle.pws_base.specs.Fields.{Unread, unread, Gives, Ends, bytes_field, u8_field, u32_field, u64_field, digest_field, u8_within, u32_within, group_field, index_field, number_field, view_field, sized_field, body_field};
+ghost use Rattle.pws_base.specs.Limits.{max_number, max_body};
 
+use crate::limits::{MAX_BODY, MAX_GROUPS, MAX_NUMBER, MAX_REPLICAS};
 use crate::memory::Memory;
 use crate::shapes::{Digest, GroupId, Number, View};
 use std::alloc::{AllocError, AllocFailed};
@@ -116,7 +118,7 @@ impl<'a> FieldReader<'a> {
     pub fn new(text: &'a [u8]) -> FieldReader<'a>
         ensures { result ≡ unread text.now }
     {
-        let _count = text.len();
+        let _count = text.len(); // shows: the length is below 2^64
         FieldReader { left: text, at: 0 }
     }
 
@@ -126,14 +128,6 @@ impl<'a> FieldReader<'a> {
         ensures { result ≡ record { left = part.now; at = at } }
     {
         FieldReader { left: part, at }
-    }
-
-    /// The bytes that aren't read yet.
-    pub fn left(&self) -> &'a [u8]
-        ensures value { result.now ≡ self.now.left }
-        ensures small { self.now.at + length self.now.left < 2 ^ 64 }
-    {
-        self.left
     }
 
     /// The place of the first byte that isn't read yet.
@@ -277,7 +271,7 @@ impl<'a> FieldReader<'a> {
         ensures range { IfOk result (λ n. n ≤ 15) }
         ensures err { OnErr result (self.new ≡ self.old) }
     {
-        self.take_u8_within(0, 15)
+        self.take_u8_within(0, MAX_GROUPS - 1)
     }
 
     /// The next field, the index of a replica, 0 to 9.
@@ -290,7 +284,7 @@ impl<'a> FieldReader<'a> {
         ensures range { IfOk result (λ n. n ≤ 9) }
         ensures err { OnErr result (self.new ≡ self.old) }
     {
-        self.take_u8_within(0, 9)
+        self.take_u8_within(0, MAX_REPLICAS - 1)
     }
 
     /// The next field, a number, a place or an ask, 1 to 1,000,000.
@@ -300,10 +294,10 @@ impl<'a> FieldReader<'a> {
     /// `Short` or `Range`, as of four bytes within a range.
     pub fn take_number(&mut self) -> Result<Number, FieldFault>
         ensures read { Gives (λ n. n) result self.new (number_field self.old) }
-        ensures range { IfOk result (λ n. (1 ≤ n) × (n ≤ 1000000)) }
+        ensures range { IfOk result (λ n. (1 ≤ n) × (n ≤ max_number)) }
         ensures err { OnErr result (self.new ≡ self.old) }
     {
-        self.take_u32_within(1, 1000000)
+        self.take_u32_within(1, MAX_NUMBER)
     }
 
     /// The next field, a view or a low mark, 0 to 1,000,000.
@@ -316,7 +310,7 @@ impl<'a> FieldReader<'a> {
         ensures range { IfOk result (λ n. n ≤ 1000000) }
         ensures err { OnErr result (self.new ≡ self.old) }
     {
-        self.take_u32_within(0, 1000000)
+        self.take_u32_within(0, MAX_NUMBER)
     }
 
     /// The next field, bytes after their length in four bytes, at most `bound` of them.
@@ -347,10 +341,10 @@ impl<'a> FieldReader<'a> {
     /// `Short` or `Range`, as of bytes after their length.
     pub fn take_body(&mut self) -> Result<&'a [u8], FieldFault>
         ensures read { Gives (λ s. s.now) result self.new (body_field self.old) }
-        ensures size { IfOk result (λ s. length s.now ≤ 32768) }
+        ensures size { IfOk result (λ s. length s.now ≤ max_body) }
         ensures err { OnErr result (self.new ≡ self.old) }
     {
-        self.take_sized(32768)
+        self.take_sized(MAX_BODY)
     }
 
     /// Answers whether the text ends here.

@@ -95,13 +95,33 @@ impl<T: Drop> Sequence<T> {
     }
 }
 
+/// A list of copies, each equal to an item of these.
+///
+/// # Errors
+///
+/// `Memory` only.
+pub fn copy_all<T: ExactCopy>(alloc: Global, items: &[T]) -> Result<Sequence<T>, Memory>
+    ensures { IfOk result (λ copies. copies ≡ items.now) }
+{
+    let mut copies = Vec::new(alloc);
+    for item in items {
+        copies.push(item.copy(alloc)?)?;
+    }
+    Ok(Sequence { items: copies })
+}
+
 impl<T: ExactCopy> ExactCopy for Sequence<T> {
     fn copy(&self, alloc: Global) -> Result<Sequence<T>, Memory> {
-        let mut items = Vec::new(alloc);
-        for item in self.items.iter() {
-            items.push(item.copy(alloc)?)?;
+        copy_all(alloc, self.items.as_slice())
+    }
+}
+
+impl<T: ExactCopy> ExactCopy for Option<T> {
+    fn copy(&self, alloc: Global) -> Result<Option<T>, Memory> {
+        match self {
+            Some(value) => Ok(Some(value.copy(alloc)?)),
+            None => Ok(None),
         }
-        Ok(Sequence { items })
     }
 }
 

@@ -1,6 +1,6 @@
 //! Groups of replicas: their sizes, and the names of their members.
 
-ghost use Rattle.std.specs.Prelude.{◌≡◌, ℕ, ◌+◌, ◌*◌, ◌%◌, ◌<◌, ◌≤◌, ◌↔◌, [], length, All, IsOk, IfOk, IsTrue, slice_get};
+ghost use Rattle.std.specs.Prelude.{◌≡◌, ℕ, ◌+◌, ◌*◌, ◌%◌, ◌<◌, ◌≤◌, ◌↔◌, [], length, All, IsOk, IfOk, IsTrue, OnSome, slice_get};
 ghost use Rattle.std.specs.List.{AllPass};
 ghost use Rattle.pws_base.specs.Shapes.{size_of_group, quorum_of, weak_of, primary_of, has_replica};
 
@@ -179,7 +179,8 @@ impl Layout {
 
     /// The shape of a group, or None exactly where there is no group of this number.
     pub fn shape(&self, group: GroupId) -> Option<GroupShape>
-        ensures { result ≡ slice_get self.now group }
+        ensures value { result ≡ slice_get self.now group }
+        ensures few { OnSome result (group ≤ 15) }
     {
         if group < self.groups {
             Some(GroupShape {
@@ -190,9 +191,11 @@ impl Layout {
         }
     }
 
-    /// Whether it has this replica.
+    /// Whether it has this replica, whose group is then 0 to 15 and whose index 0 to 9.
     pub fn has(&self, replica: ReplicaId) -> bool
-        ensures { result ≡ has_replica self.now replica }
+        ensures value { result ≡ has_replica self.now replica }
+        ensures group { IsTrue result → replica.group ≤ 15 }
+        ensures index { IsTrue result → replica.index ≤ 9 }
     {
         match self.shape(replica.group) {
             Some(shape) => replica.index < shape.n(),

@@ -4,7 +4,8 @@ use Rattle.std.specs.List.{list_any, list_all, flat_map}
 use Rattle.std.proofs.lemmas.Bool.{false≢true, and_parts, and_from, and_cases, or_cases, or_left, or_right, not-true, not-false, ltb-true, lt-ltb, eqb-true, eq-eqb, cases_Bool, cases_order}
 use Rattle.std.proofs.lemmas.List.{take_more, take_all}
 use Rattle.std.proofs.lemmas.List.Folds.{list_any-append, list_all-append}
-use Rattle.pws_change.specs.Best.{Rank, is_no_better, is_better, IsBest}
+use Rattle.pws_change.specs.Best.{Rank, is_no_better, is_better}
+use Rattle.pws_change.specs.Searched.{IsBest}
 use Rattle.pws_change.specs.Rising.{is_digest_at_most}
 use Rattle.pws_change.proofs.Counted.{flat_map-take_more}
 use Rattle.pws_change.proofs.Orders.{at_most_trans, at_most_other, at_most_itself}

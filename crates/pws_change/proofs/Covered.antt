@@ -3,6 +3,7 @@ use Rattle.std.proofs.Common.{◌≡◌, ℕ, ◌+◌, ◌<◌, ◌≤◌, ◌�
 use Rattle.std.specs.List.{list_any, list_all, count_by, fold}
 use Rattle.std.proofs.lemmas.Bool.{false≢true, and_parts, and_from, and_cases, not-true, not-false, or_cases, eq-eqb, ltb-true, eqb-true, leb-true, lt-ltb, le-leb}
 use Rattle.std.proofs.lemmas.Slice.Eq.{bytes_eq-Decides}
+use Rattle.pws_base.specs.Places.{is_in_window}
 use Rattle.pws_base.specs.Shapes.{quorum_of, weak_of}
 use Rattle.pws_msg.specs.declared.changes.PRow.{PRow}
 use Rattle.pws_msg.specs.declared.changes.Choice.{Choice}
@@ -12,7 +13,7 @@ use Rattle.pws_change.specs.Changes.{is_low_by, has_entry, allows_entry, is_row_
 use Rattle.pws_change.specs.Choices.{MeetsA, IsChoice, prepared_rows, highest_place, last_of, chosen_at}
 use Rattle.pws_change.specs.Laws.{EachQuorumCovers, CoveredIsKept, HardlyLackedIsKept}
 use Rattle.pws_change.specs.Rising.{rises}
-use Rattle.pws_change.specs.Valid.{IsValid, is_above, is_p_row_valid}
+use Rattle.pws_change.specs.Valid.{IsValid, is_p_row_valid}
 use Rattle.pws_change.proofs.Counted.{list_any-flat_map, any_more, any_differs, any_of_all, any_all, any_is}
 
 -- what a row says that is from an entry on
@@ -71,7 +72,7 @@ covers_near place d v h valid e =
     let view = h.change.view in
     let rows = (and_parts (list_all (is_p_row_valid low view) h.change.prepared) (rises (λ a b. nat_lt a.place b.place) h.change.prepared) valid.prepared).0 in
     let r = any_all (is_p_row_valid low view) (is_row_from place d v) h.change.prepared rows e in
-    let above = (and_parts (is_above low r.0.place) (nat_lt r.0.view view) r.1).0 in
+    let above = (and_parts (is_in_window low r.0.place) (nat_lt r.0.view view) r.1).0 in
     let near = leb-true r.0.place (low + 32) (and_parts (nat_lt low r.0.place) (nat_le r.0.place (low + 32)) above).1 in
     let at = (row_from place d v r.0 r.2).0 in
     omega arith

@@ -8,7 +8,8 @@ use Rattle.pws_base.specs.Shapes.{quorum_of, weak_of}
 use Rattle.pws_msg.specs.declared.changes.Checkpoint.{Checkpoint}
 use Rattle.pws_msg.specs.declared.changes.PRow.{PRow}
 use Rattle.pws_change.specs.declared.heard.Heard.{Heard}
-use Rattle.pws_change.specs.Best.{IsBest, is_no_better, may_start, rank_of_checkpoint, is_same_checkpoint, is_candidate, rank_of_row, is_same_row}
+use Rattle.pws_change.specs.Best.{is_no_better, may_start, rank_of_checkpoint, is_candidate, rank_of_row}
+use Rattle.pws_change.specs.Searched.{IsBest, is_same_checkpoint, is_same_row}
 use Rattle.pws_change.specs.Changes.{is_low_by, has_checkpoint, is_entry, has_entry, allows_entry, is_witness}
 use Rattle.pws_change.specs.Choices.{MayStart, IsStart, HasNoStart, MeetsA, IsBestEntry, HasNoA, prepared_rows}
 use Rattle.pws_change.specs.Rising.{is_digest_at_most}

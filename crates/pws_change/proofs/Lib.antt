@@ -1,12 +1,17 @@
+pub mod Agreeing
 pub mod Best
 pub mod Counted
 pub mod Covered
 pub mod Decided
+pub mod Deciding
 pub mod Found
 pub mod Noted
 pub mod Orders
 pub mod Placed
+pub mod Readers
 pub mod Rises
+pub mod RowLemmas
+pub mod Sending
 pub mod Sorted
 pub mod Unique
 pub mod Witnessed

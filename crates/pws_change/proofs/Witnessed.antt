@@ -7,7 +7,7 @@ use Rattle.std.specs.Str.{bytes_eq}
 use Rattle.std.specs.declared.cmp.Ordering.TheVariants.{Less, Equal, Greater}
 use Rattle.std.specs.Cmp.Lexicographic.{slice_cmp}
 use Rattle.std.specs.FinMap.{empty, entries, get, len, contains_key, from_sorted, entries-from_sorted, get-from_sorted, len-entries, len-empty, contains_key-keys, nat_cmp-IsAntisymmetric}
-use Rattle.std.specs.FinMap.Entries.{is_sorted, put, length-put, is_some-find}
+use Rattle.std.specs.FinMap.Entries.{is_sorted}
 use Rattle.std.specs.FinMap.Entries as entry
 use Rattle.std.proofs.lemmas.Bool.{and_parts, and_from, ltb-true, leb-true, le-leb, ne_eqb}
 use Rattle.std.proofs.lemmas.Cmp.{nat_cmp_total}
@@ -17,7 +17,7 @@ use Rattle.pws_msg.specs.declared.changes.QRow.{QRow}
 use Rattle.pws_msg.specs.declared.changes.Seen.{Seen}
 use Rattle.pws_change.specs.Rising.{rises, is_digest_below}
 use Rattle.pws_change.specs.Rows.{seen_entry, digests_in, q_entry, pre_prepared_in, is_row_full}
-use Rattle.pws_change.specs.Sets.{PrePrepared, Digests, seen_of, q_rows, is_full, trimmed, is_q_row_lawful, are_q_rows_lawful}
+use Rattle.pws_change.specs.Sets.{PrePrepared, Digests, row_at, seen_of, q_rows, is_full, trimmed, is_q_row_lawful, are_q_rows_lawful}
 use Rattle.pws_change.proofs.Placed.{lt_is, true_of}
 use Rattle.pws_change.proofs.Sorted.{holds, sorted_is, made_kept, made_empty}
 
@@ -111,10 +111,10 @@ has_is digest [] = refl
 has_is digest (d ∷ ds) =
     ap (λ t. t || list_any (eq_by_cmp (slice_cmp nat_cmp) digest) (map (λ (e : List ℕ × ℕ). e.0) (map seen_entry ds))) (is_eq-slice_cmp digest d.digest) ∙ ap (λ t. bytes_eq digest d.digest || t) (has_is digest ds)
 
-len_is : (ds : List Seen) → digests_rise ds ≡ true → len (digests_in ds) ≡ length ds
+pub len_is : (ds : List Seen) → digests_rise ds ≡ true → len (digests_in ds) ≡ length ds
 len_is ds h = len-entries (digests_in ds) ∙ (ap length (digest_entries ds h) ∙ length-map ds seen_entry)
 
-key_is : (digest : List ℕ) (ds : List Seen) → digests_rise ds ≡ true → contains_key (digests_in ds) digest ≡ list_any (λ s. bytes_eq digest s.digest) ds
+pub key_is : (digest : List ℕ) (ds : List Seen) → digests_rise ds ≡ true → contains_key (digests_in ds) digest ≡ list_any (λ s. bytes_eq digest s.digest) ds
 key_is digest ds h =
     contains_key-keys (digests_in ds) digest ∙ (ap (λ (es : List (List ℕ × ℕ)). list_any (eq_by_cmp (slice_cmp nat_cmp) digest) (map (λ e. e.0) es)) (digest_entries ds h) ∙ has_is digest ds)
 
@@ -141,26 +141,33 @@ find_is place (r ∷ rows) =
     ap (λ b. cond b (Some (digests_in r.digests)) (entry.find nat_cmp place (map q_entry rows))) (eq_is place r.place)
     ∙ find_go (place == r.place) r (entry.find nat_cmp place (map q_entry rows)) (find (λ r. place == r.place) rows) (find_is place rows)
 
-full_go : (digest : List ℕ) (o : Option QRow) → option_map_or is_q_row_lawful o true ≡ true
-    → nat_le 16 (len (unwrap_or (option_map (λ (r : QRow). digests_in r.digests) o) empty)) && not (contains_key (unwrap_or (option_map (λ (r : QRow). digests_in r.digests) o) empty) digest) ≡ option_map_or (is_row_full digest) o false
-full_go digest None h = ap (λ n. nat_le 16 n && not (contains_key (empty {X = ℕ} {R = slice_cmp nat_cmp}) digest)) (len-empty (slice_cmp nat_cmp) ℕ)
-full_go digest (Some r) h = row_full_is digest r h
+-- a reader of the row at a place: what it gives of the set's row, and of the row that is found
+at_go : {X : Type 0} (F : Digests → X) (G : QRow → X) (d : X) → F empty ≡ d → ((r : QRow) → is_q_row_lawful r ≡ true → F (digests_in r.digests) ≡ G r) → (o : Option QRow) → option_map_or is_q_row_lawful o true ≡ true
+    → F (unwrap_or (option_map (λ (r : QRow). digests_in r.digests) o) empty) ≡ option_map_or G o d
+at_go F G d none each None h = none
+at_go F G d none each (Some r) h = each r h
 
 found_go : (p q : QRow → Bool) (r : QRow) (b : Bool) (o : Option QRow) → p r ≡ true → option_map_or p o true ≡ true → option_map_or p (cond b (Some r) o) true ≡ true
 found_go p q r true o h k = h
 found_go p q r false o h k = k
 
-found_all : (p q : QRow → Bool) (rows : List QRow) → list_all p rows ≡ true → option_map_or p (find q rows) true ≡ true
+pub found_all : (p q : QRow → Bool) (rows : List QRow) → list_all p rows ≡ true → option_map_or p (find q rows) true ≡ true
 found_all p q [] h = refl
 found_all p q (r ∷ rows) h = let t = and_parts (p r) (list_all p rows) h in found_go p q r (q r) (find q rows) t.0 (found_all p q rows t.1)
 
--- whether the row of a place is full
-full_is : (rows : List QRow) (place : ℕ) (digest : List ℕ) → are_q_rows_lawful rows ≡ true → is_full (pre_prepared_in rows) place digest ≡ option_map_or (is_row_full digest) (find (λ r. place == r.place) rows) false
+pub at_is : {X : Type 0} (F : Digests → X) (G : QRow → X) (d : X) → F empty ≡ d → ((r : QRow) → is_q_row_lawful r ≡ true → F (digests_in r.digests) ≡ G r) → (rows : List QRow) (place : ℕ) → are_q_rows_lawful rows ≡ true
+    → F (row_at (pre_prepared_in rows) place) ≡ option_map_or G (find (λ r. place == r.place) rows) d
 unfolding pre_prepared_in
-full_is rows place digest h =
+at_is F G d none each rows place h =
     let t = and_parts (list_all is_q_row_lawful rows) (rows_rise rows) h in
     let g : get (from_sorted {R = nat_cmp} (map q_entry rows)) place ≡ option_map (λ (r : QRow). digests_in r.digests) (find (λ r. place == r.place) rows) = get-from_sorted nat_cmp (map q_entry rows) place (sorted rows t.1) ∙ find_is place rows in
-    ap (λ (o : Option Digests). nat_le 16 (len (unwrap_or o empty)) && not (contains_key (unwrap_or o empty) digest)) g ∙ full_go digest (find (λ r. place == r.place) rows) (found_all is_q_row_lawful (λ r. place == r.place) rows t.0)
+    ap (λ (o : Option Digests). F (unwrap_or o empty)) g ∙ at_go F G d none each (find (λ r. place == r.place) rows) (found_all is_q_row_lawful (λ r. place == r.place) rows t.0)
+
+-- whether the row of a place is full
+full_is : (rows : List QRow) (place : ℕ) (digest : List ℕ) → are_q_rows_lawful rows ≡ true → is_full (pre_prepared_in rows) place digest ≡ option_map_or (is_row_full digest) (find (λ r. place == r.place) rows) false
+full_is rows place digest h =
+    at_is (λ (ds : Digests). nat_le 16 (len ds) && not (contains_key ds digest)) (is_row_full digest) false
+    (ap (λ n. nat_le 16 n && not (contains_key (empty {X = ℕ} {R = slice_cmp nat_cmp}) digest)) (len-empty (slice_cmp nat_cmp) ℕ)) (row_full_is digest) rows place h
 
 -- the same, where the rows keep a set
 pub full_in : (rows given : List QRow) (m : PrePrepared) (place : ℕ) (digest : List ℕ) → are_q_rows_lawful rows ≡ true → given ≡ rows → pre_prepared_in rows ≡ m

@@ -3,6 +3,7 @@
 -- project's own. Each condition is a count over the whole list; f is the number of replicas that may be compromised.
 use Rattle.std.specs.Prelude.{◌≡◌, ℕ, ◌+◌, ◌-◌, ◌<◌, ◌≤◌, ◌⊎◌, List, [], length, max, min, slice_index_or, IsTrue}
 use Rattle.std.specs.List.{count_by, flat_map, fold}
+use Rattle.pws_base.specs.Limits.{place_window}
 use Rattle.pws_base.specs.Shapes.{quorum_of, weak_of}
 use Rattle.pws_event.specs.Events.{digest_of}
 use Rattle.pws_event.specs.declared.events.Event.TheVariants as event
@@ -40,7 +41,7 @@ highest_place changes = fold (λ place r. max place r.place) 0 (prepared_rows ch
 -- the last chosen place after a checkpoint: the highest that is named, but at most 32 after it; the checkpoint's own
 -- place where none is chosen
 abbrev pub last_place : ℕ → List Heard → ℕ
-last_place start changes = max start (min (highest_place changes) (start + 32))
+last_place start changes = max start (min (highest_place changes) (start + place_window))
 
 -- condition A for an entry of a prepared set: some change has it, a quorum of changes with a low mark below the place
 -- have there no other entry that isn't of an earlier view, and f + 1 pre-prepared its digest in its view or later

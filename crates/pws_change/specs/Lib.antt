@@ -2,8 +2,12 @@ pub mod Agreements
 pub mod Best
 pub mod Changes
 pub mod Choices
+pub mod Decisions
 pub mod Laws
 pub mod Rising
 pub mod Rows
+pub mod Searched
+pub mod SendingLaws
+pub mod SetLaws
 pub mod Sets
 pub mod Valid

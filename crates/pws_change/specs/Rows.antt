@@ -1,4 +1,4 @@
--- The rows by which a set is kept.
+-- For proofs alone. The rows by which a set is kept.
 use Rattle.std.specs.List.{list_any}
 use Rattle.std.specs.Str.{bytes_eq}
 use Rattle.std.specs.Prelude.{◌≡◌, ℕ, ◌<◌, ◌≤◌, ◌&&◌, Bool, nat_le, not, List, length, map, slice_index_or}
@@ -43,6 +43,10 @@ pub record IsMissingAt {X K : Type 0} (R : K → K → Ordering) (key : X → K)
   pub before : (j : ℕ) (d : X) → j < i → R k (key (slice_index_or items j d)) ≡ Greater
   pub after : (d : X) → i < length items → R k (key (slice_index_or items i d)) ≡ Less
 
+-- whether a row has this digest
+abbrev pub row_has : List ℕ → QRow → Bool
+row_has digest r = list_any (λ s. bytes_eq digest s.digest) r.digests
+
 -- whether a row has 16 digests, and not this one
 abbrev pub is_row_full : List ℕ → QRow → Bool
-is_row_full digest r = nat_le 16 (length r.digests) && not (list_any (λ s. bytes_eq digest s.digest) r.digests)
+is_row_full digest r = nat_le 16 (length r.digests) && not (row_has digest r)

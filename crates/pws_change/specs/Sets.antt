@@ -1,12 +1,12 @@
 -- What a replica prepared and pre-prepared in earlier views, as finite maps, after Castro and Liskov (2002), Practical
 -- Byzantine Fault Tolerance and Proactive Recovery; that a row has at most 16 digests is this project's own.
-use Rattle.std.specs.Prelude.{ℕ, ◌&&◌, not, Bool, nat_lt, nat_le, List, length, map}
-use Rattle.std.specs.List.{list_all}
+use Rattle.std.specs.Prelude.{ℕ, ◌&&◌, not, Bool, nat_lt, nat_le, List, length, map, sum}
+use Rattle.std.specs.List.{list_all, list_any}
 use Rattle.std.specs.Option.{unwrap_or}
 use Rattle.std.specs.Ordering.{nat_cmp}
 use Rattle.std.specs.Cmp.Lexicographic.{slice_cmp}
 use Rattle.std.specs.Coded.{Coded, coded×, coded_ℕ, coded_list}
-use Rattle.std.specs.FinMap.{FinMap, entries, get, insert, contains_key, len, retain_keys}
+use Rattle.std.specs.FinMap.{FinMap, entries, values, get, insert, contains_key, len, retain_keys}
 use Rattle.std.specs.FinMap as finite
 use Rattle.pws_msg.specs.declared.changes.PRow.{PRow}
 use Rattle.pws_msg.specs.declared.changes.QRow.{QRow}
@@ -47,6 +47,17 @@ q_rows m = map (λ e. record { place = e.0; digests = seen_of e.1 }) (entries m)
 -- the row at a place, empty where there is none
 abbrev pub row_at : PrePrepared → ℕ → Digests
 row_at m place = unwrap_or (get m place) finite.empty
+
+-- whether a digest was pre-prepared at the place, and whether it was at some place
+abbrev pub has_digest : PrePrepared → ℕ → List ℕ → Bool
+has_digest m place digest = contains_key (row_at m place) digest
+
+abbrev pub names_digest : PrePrepared → List ℕ → Bool
+names_digest m digest = list_any (λ row. contains_key row digest) (values m)
+
+-- how many digests were pre-prepared, at all places together
+abbrev pub count_of_digests : PrePrepared → ℕ
+count_of_digests m = sum (map len (values m))
 
 -- whether the row at the place has 16 other digests
 abbrev pub is_full : PrePrepared → ℕ → List ℕ → Bool

@@ -2,12 +2,14 @@
 
 ghost use Rattle.std.specs.Prelude.{◌≡◌, ◌<◌, ◌≤◌, ℕ, max, IfOk, MatchOption};
 ghost use Rattle.std.specs.List.{fold};
+ghost use Rattle.pws_change.specs.Decisions.{decision_of};
 ghost use Rattle.pws_change.specs.Choices.{IsStart, IsUndecidedAt, IsChosenAt, HasNoA, IsChoice, null_digest, highest_place, last_place};
 
 use crate::counts::having_no_entry;
 use crate::decisions::Decision;
-use crate::heard::Heard;
+use crate::heard::HeardRef;
 use crate::search::{entry_at, start_of};
+use pws_base::limits::PLACE_WINDOW;
 use pws_base::lists::Sequence;
 use pws_base::memory::Memory;
 use pws_base::shapes::{Digest, GroupShape, Place};
@@ -34,26 +36,26 @@ fn highest_in(rows: &[PRow], place: Place) -> Place
 }
 
 /// The highest place that a prepared set names, or 0.
-fn highest_place(changes: &[Heard]) -> Place
+fn highest_place(changes: &[HeardRef<'_>]) -> Place
     ensures { result ≡ highest_place changes.now }
 {
     let mut highest = 0;
     for h in changes {
-        highest = highest_in(h.change.prepared.as_slice(), highest);
+        highest = highest_in(h.prepared(), highest);
     }
     highest
 }
 
 /// The last chosen place after a checkpoint, or the checkpoint's where none is chosen.
-pub(crate) fn last_place(changes: &[Heard], start: Place) -> Place
+pub(crate) fn last_place(changes: &[HeardRef<'_>], start: Place) -> Place
     ensures value { result ≡ last_place start changes.now }
     ensures after { start ≤ result }
 {
-    start.max(highest_place(changes).min(start.saturating_add(32)))
+    start.max(highest_place(changes).min(start.saturating_add(PLACE_WINDOW)))
 }
 
 /// Null's digest where B holds at a place.
-fn null_at(changes: &[Heard], shape: GroupShape, place: Place) -> Option<Digest>
+fn null_at(changes: &[HeardRef<'_>], shape: GroupShape, place: Place) -> Option<Digest>
     requires { HasNoA shape changes.now place }
     ensures { MatchOption result (IsUndecidedAt shape changes.now place) (λ d. IsChosenAt shape changes.now place d) }
 {
@@ -65,7 +67,7 @@ fn null_at(changes: &[Heard], shape: GroupShape, place: Place) -> Option<Digest>
 }
 
 /// The digest that is chosen at a place, or None where it is undecided.
-pub(crate) fn digest_at(changes: &[Heard], shape: GroupShape, place: Place) -> Option<Digest>
+pub(crate) fn digest_at(changes: &[HeardRef<'_>], shape: GroupShape, place: Place) -> Option<Digest>
     ensures { MatchOption result (IsUndecidedAt shape changes.now place) (λ d. IsChosenAt shape changes.now place d) }
 {
     match entry_at(changes, shape, place) {
@@ -77,7 +79,7 @@ pub(crate) fn digest_at(changes: &[Heard], shape: GroupShape, place: Place) -> O
 /// What is decided after a checkpoint.
 fn choose_from(
     alloc: Global,
-    changes: &[Heard],
+    changes: &[HeardRef<'_>],
     shape: GroupShape,
     start: &Checkpoint,
 ) -> Result<Decision, Memory>
@@ -98,17 +100,31 @@ fn choose_from(
     }))
 }
 
-/// What is decided by a list of view changes for a view, whatever their order: what the view keeps, or that too few
-/// agree. The rule is in docs/PROTOCOL.md.
-///
-/// # Errors
-///
-/// `Memory` only.
-pub fn choose(alloc: Global, changes: &[Heard], shape: GroupShape) -> Result<Decision, Memory>
+/// What is decided.
+fn decide(alloc: Global, changes: &[HeardRef<'_>], shape: GroupShape) -> Result<Decision, Memory>
     ensures { IfOk result (IsChoice shape changes.now) }
 {
     match start_of(changes, shape) {
         Some(start) => choose_from(alloc, changes, shape, &start),
         None => Ok(Decision::Undecided { place: 0 }),
     }
+}
+
+/// What is decided by a list of view changes for a view, whatever their order: what the view keeps, or that too few
+/// agree. The changes are lent, and none is copied. The rule is in docs/PROTOCOL.md.
+///
+/// # Errors
+///
+/// `Memory` only.
+#[tactic(auto, using(crate::proofs::Deciding::choice_is_decided))]
+pub fn choose(
+    alloc: Global,
+    changes: &[HeardRef<'_>],
+    shape: GroupShape,
+) -> Result<Decision, Memory>
+    ensures choice { IfOk result (IsChoice shape changes.now) }
+    ensures value { IfOk result (λ d. d ≡ decision_of shape changes.now) }
+{
+    let decision = decide(alloc, changes, shape)?;
+    Ok(decision)
 }

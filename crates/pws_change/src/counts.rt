@@ -6,7 +6,7 @@ ghost use Rattle.std.specs.List.{list_any, list_all};
 ghost use Rattle.pws_change.specs.Changes.{is_low_by, has_checkpoint, is_entry, has_entry, is_row_no_later, allows_entry, is_witness, has_no_entry};
 
 use crate::digests::is_same;
-use crate::heard::Heard;
+use crate::heard::HeardRef;
 use pws_base::shapes::{Digest, Place, View};
 use pws_msg::changes::{Checkpoint, PRow, QRow, Seen};
 
@@ -18,18 +18,16 @@ fn is_checkpoint(c: &Checkpoint, place: Place, digest: &Digest) -> bool
 }
 
 /// Whether a change has a checkpoint.
-fn has_checkpoint(h: &Heard, place: Place, digest: &Digest) -> bool
+fn has_checkpoint(h: &HeardRef<'_>, place: Place, digest: &Digest) -> bool
     ensures { result ≡ has_checkpoint place digest.now h.now }
 {
-    h.change
-        .checkpoints
-        .as_slice()
+    h.checkpoints()
         .iter()
         .any(|c| is_checkpoint(c, place, digest))
 }
 
 /// How many changes have a checkpoint.
-pub(crate) fn having_checkpoint(changes: &[Heard], place: Place, digest: &Digest) -> usize
+pub(crate) fn having_checkpoint(changes: &[HeardRef<'_>], place: Place, digest: &Digest) -> usize
     ensures { result ≡ count_by (has_checkpoint place digest.now) changes.now }
 {
     changes
@@ -39,10 +37,10 @@ pub(crate) fn having_checkpoint(changes: &[Heard], place: Place, digest: &Digest
 }
 
 /// How many changes have a low mark at or below a place.
-pub(crate) fn low_by(changes: &[Heard], place: Place) -> usize
+pub(crate) fn low_by(changes: &[HeardRef<'_>], place: Place) -> usize
     ensures { result ≡ count_by (is_low_by place) changes.now }
 {
-    changes.iter().filter(|h| h.change.low <= place).count()
+    changes.iter().filter(|h| h.low() <= place).count()
 }
 
 /// Whether a row, if it is at the place, is of an earlier view than the entry, or is the entry itself.
@@ -60,14 +58,19 @@ fn are_rows_no_later(rows: &[PRow], place: Place, digest: &Digest, view: View) -
 }
 
 /// Whether a change with a low mark below the place has there no other entry that isn't of an earlier view.
-fn allows_entry(h: &Heard, place: Place, digest: &Digest, view: View) -> bool
+fn allows_entry(h: &HeardRef<'_>, place: Place, digest: &Digest, view: View) -> bool
     ensures { result ≡ allows_entry place digest.now view h.now }
 {
-    h.change.low < place && are_rows_no_later(h.change.prepared.as_slice(), place, digest, view)
+    h.low() < place && are_rows_no_later(h.prepared(), place, digest, view)
 }
 
 /// How many changes allow an entry.
-pub(crate) fn allowing_entry(changes: &[Heard], place: Place, digest: &Digest, view: View) -> usize
+pub(crate) fn allowing_entry(
+    changes: &[HeardRef<'_>],
+    place: Place,
+    digest: &Digest,
+    view: View,
+) -> usize
     ensures { result ≡ count_by (allows_entry place digest.now view) changes.now }
 {
     changes
@@ -98,18 +101,21 @@ fn is_row_witness(q: &QRow, place: Place, digest: &Digest, view: View) -> bool
 }
 
 /// Whether a change pre-prepared a digest at a place, in this view or a later one.
-fn is_witness(h: &Heard, place: Place, digest: &Digest, view: View) -> bool
+fn is_witness(h: &HeardRef<'_>, place: Place, digest: &Digest, view: View) -> bool
     ensures { result ≡ is_witness place digest.now view h.now }
 {
-    h.change
-        .pre_prepared
-        .as_slice()
+    h.pre_prepared()
         .iter()
         .any(|q| is_row_witness(q, place, digest, view))
 }
 
 /// How many changes are witnesses of an entry.
-pub(crate) fn witnesses(changes: &[Heard], place: Place, digest: &Digest, view: View) -> usize
+pub(crate) fn witnesses(
+    changes: &[HeardRef<'_>],
+    place: Place,
+    digest: &Digest,
+    view: View,
+) -> usize
     ensures { result ≡ count_by (is_witness place digest.now view) changes.now }
 {
     changes
@@ -126,14 +132,14 @@ fn are_rows_elsewhere(rows: &[PRow], place: Place) -> bool
 }
 
 /// Whether a change with a low mark below the place has no entry there.
-fn has_no_entry(h: &Heard, place: Place) -> bool
+fn has_no_entry(h: &HeardRef<'_>, place: Place) -> bool
     ensures { result ≡ has_no_entry place h.now }
 {
-    h.change.low < place && are_rows_elsewhere(h.change.prepared.as_slice(), place)
+    h.low() < place && are_rows_elsewhere(h.prepared(), place)
 }
 
 /// How many changes have no entry at a place.
-pub(crate) fn having_no_entry(changes: &[Heard], place: Place) -> usize
+pub(crate) fn having_no_entry(changes: &[HeardRef<'_>], place: Place) -> usize
     ensures { result ≡ count_by (has_no_entry place) changes.now }
 {
     changes.iter().filter(|h| has_no_entry(h, place)).count()

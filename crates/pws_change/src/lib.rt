@@ -2,11 +2,18 @@
 //!
 //! - `prepared` and `pre_prepared` are the sets `PSet` and `QSet`: what a replica prepared and pre-prepared in earlier
 //!   views, as finite maps, with the rows that its view change holds.
-//! - `heard` has a view change as it was heard. `valid` tells which are valid.
-//! - `choices` has `choose`: what a list of view changes decides, a `Decision`. `counts` counts what the changes say of a
-//!   place, and `search` finds the best checkpoint and the best entry among those that enough of them bear out.
+//! - `valid` tells which view changes are valid. `heard` has one as it was heard, `Heard`, and as it is lent to whoever
+//!   looks at it, `HeardRef`: no call copies a view change.
+//! - `choices` has `choose`: what a list of view changes decides, a `Decision` (`decisions`). `counts` counts what the
+//!   changes say of a place, and `search` finds the best checkpoint and the best entry among those that enough of them
+//!   bear out.
 //! - `agreements` has `agrees`: whether a new view is what the changes that it names decide.
-//! - `laws` states what follows from the definition of the choice alone.
+//! - `laws` states what follows from the definitions alone.
+//!
+//! Definitions to believe, in the order of reading: `Rising`, `Valid`, `Changes`, `Choices`, `Best`, `Decisions`,
+//! `Agreements`, `Sets`, `Laws`, `SendingLaws`, `SetLaws`. `Choices` states the choice as a relation, by counts over the
+//! whole list, and `Decisions` as a function; of these two `Choices` is the one to believe, since `Laws` says that they
+//! agree. `Searched` and `Rows` serve proofs alone.
 //!
 //! The one contract that all above rely on: of each list of view changes exactly one decision meets the definition of the
 //! choice, a count over the whole list, and `choose` gives it. docs/PROTOCOL.md tells the rule in words.

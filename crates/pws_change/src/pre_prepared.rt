@@ -1,20 +1,20 @@
 //! What a replica pre-prepared.
 
 ghost use Rattle.std.specs.Prelude.{◌≡◌, ◌<◌, ◌≤◌, ◌==◌, ◌&&◌, ◌↔◌, ℕ, ◌∷◌, [], ◌++◌, map, find, filter, length, nat_lt, nat_le, not, false, Option, slice_index_or, IsTrue, OnOk, OnErr, IfOk, IfErr};
-ghost use Rattle.std.specs.List.{list_any, slice_set};
+ghost use Rattle.std.specs.List.{list_any, slice_set, sum_by};
 ghost use Rattle.std.specs.Ordering.{nat_cmp};
 ghost use Rattle.std.specs.Option.{option_copied, option_map_or};
 ghost use Rattle.std.specs.Str.{bytes_eq};
 ghost use Rattle.std.specs.Cmp.Lexicographic.{slice_cmp};
-ghost use Rattle.std.specs.FinMap.{empty};
+ghost use Rattle.std.specs.FinMap.{empty, len};
 ghost use Rattle.std.specs.FinMap.Entries.{put};
 ghost use Rattle.pws_msg.specs.declared.changes.QRow.{QRow as QRowValue};
 ghost use Rattle.pws_msg.specs.declared.changes.Seen.{Seen as SeenValue};
-ghost use Rattle.pws_change.specs.Rows.{pre_prepared_in, seen_entry, q_entry, digests_in, is_row_full, IsFoundAt, IsMissingAt};
-ghost use Rattle.pws_change.specs.Sets.{q_rows, is_full, with_pre_prepared, trimmed, are_q_rows_lawful};
+ghost use Rattle.pws_change.specs.Rows.{pre_prepared_in, seen_entry, q_entry, digests_in, is_row_full, row_has, IsFoundAt, IsMissingAt};
+ghost use Rattle.pws_change.specs.Sets.{q_rows, row_at, has_digest, names_digest, count_of_digests, is_full, with_pre_prepared, trimmed, are_q_rows_lawful};
 
 use crate::digests::is_same;
-use pws_base::lists::{ExactCopy, Sequence};
+use pws_base::lists::{ExactCopy, Sequence, copy_all};
 use pws_base::memory::Memory;
 use pws_base::shapes::{Digest, Place, View};
 use pws_msg::changes::{QRow, Seen};
@@ -50,6 +50,7 @@ impl From<Memory> for NoteError {
 /// Contracts see it as a finite map from places to finite maps from digests to views.
 #[derive(Drop)]
 pub struct QSet {
+    /// By rising place, each with 1 to 16 digests, rising.
     rows: Vec<QRow>,
 }
 
@@ -157,6 +158,46 @@ fn is_row_full(row: &QRow, digest: &Digest) -> bool
     16 <= row.digests.len() && !has_digest(row.digests.as_slice(), digest)
 }
 
+/// How many digests the row of a place has.
+fn digests_at(rows: &[QRow], place: Place) -> usize
+    ensures { result ≡ option_map_or (λ r. length r.digests) (find (λ r. place == r.place) rows.now) 0 }
+{
+    match row_at(rows, place) {
+        Some(row) => row.digests.len(),
+        None => 0,
+    }
+}
+
+/// Whether the row of a place has a digest.
+fn has_at(rows: &[QRow], place: Place, digest: &Digest) -> bool
+    ensures { result ≡ option_map_or (row_has digest.now) (find (λ r. place == r.place) rows.now) false }
+{
+    match row_at(rows, place) {
+        Some(row) => has_digest(row.digests.as_slice(), digest),
+        None => false,
+    }
+}
+
+/// Whether some row has a digest.
+fn is_named_in(rows: &[QRow], digest: &Digest) -> bool
+    ensures { result ≡ list_any (row_has digest.now) rows.now }
+{
+    rows.iter()
+        .any(|r| has_digest(r.digests.as_slice(), digest))
+}
+
+/// How many digests the rows have together.
+fn count_in(rows: &[QRow]) -> usize
+    requires { IsTrue (are_q_rows_lawful rows.now) }
+    ensures { result ≡ sum_by (λ r. length r.digests) rows.now }
+{
+    let mut count = 0;
+    for row in rows {
+        count += row.digests.len();
+    }
+    count
+}
+
 /// Whether the row of a place has 16 other digests.
 fn is_full_in(rows: &[QRow], place: Place, digest: &Digest) -> bool
     ensures { result ≡ option_map_or (is_row_full digest.now) (find (λ r. place == r.place) rows.now) false }
@@ -214,6 +255,46 @@ impl QSet {
         self.rows.as_slice()
     }
 
+    /// How many digests were pre-prepared at a place, 0 to 16.
+    pub fn count_at(&self, place: Place) -> usize
+        ensures value { result ≡ len (row_at self.now place) }
+        ensures few { result ≤ 16 }
+    {
+        digests_at(&self.rows, place)
+    }
+
+    /// Whether a digest was pre-prepared at a place.
+    pub fn has(&self, place: Place, digest: &Digest) -> bool
+        ensures { result ≡ has_digest self.now place digest.now }
+    {
+        has_at(&self.rows, place, digest)
+    }
+
+    /// Whether a digest was pre-prepared at some place.
+    pub fn names(&self, digest: &Digest) -> bool
+        ensures { result ≡ names_digest self.now digest.now }
+    {
+        is_named_in(self.rows(), digest)
+    }
+
+    /// How many digests were pre-prepared, at all places together.
+    pub fn count(&self) -> usize
+        ensures { result ≡ count_of_digests self.now }
+    {
+        count_in(self.rows())
+    }
+
+    /// A copy of its rows, as a view change holds them.
+    ///
+    /// # Errors
+    ///
+    /// `Memory` only.
+    pub fn to_rows(&self, alloc: Global) -> Result<Sequence<QRow>, Memory>
+        ensures { IfOk result (λ rows. rows ≡ q_rows self.now) }
+    {
+        copy_all(alloc, self.rows())
+    }
+
     /// Whether the row of a place has 16 digests other than this one.
     pub fn is_full(&self, place: Place, digest: &Digest) -> bool
         ensures { result ≡ is_full self.now place digest.now }
@@ -256,21 +337,10 @@ impl QSet {
     }
 }
 
-/// A copy of rows.
-fn copy_rows(alloc: Global, rows: &[QRow]) -> Result<Vec<QRow>, Memory>
-    ensures { IfOk result (λ v. v.items ≡ rows.now) }
-{
-    let mut copied = Sequence::new(alloc);
-    for r in rows {
-        copied.push(r.copy(alloc)?)?;
-    }
-    Ok(copied.into_vec())
-}
-
 impl ExactCopy for QSet {
     fn copy(&self, alloc: Global) -> Result<QSet, Memory> {
         Ok(QSet {
-            rows: copy_rows(alloc, &self.rows)?,
+            rows: copy_all(alloc, &self.rows)?.into_vec(),
         })
     }
 }

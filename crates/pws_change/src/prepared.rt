@@ -2,14 +2,14 @@
 
 ghost use Rattle.std.specs.Prelude.{◌≡◌, ◌<◌, ◌≤◌, ◌==◌, ℕ, ◌∷◌, [], ◌++◌, map, filter, length, nat_lt, nat_le, slice_index_or, IsTrue, OnOk, OnErr, IfOk, IfErr};
 ghost use Rattle.std.specs.Ordering.{nat_cmp};
-ghost use Rattle.std.specs.FinMap.{empty};
+ghost use Rattle.std.specs.FinMap.{empty, len};
 ghost use Rattle.std.specs.FinMap.Entries.{put};
 ghost use Rattle.pws_msg.specs.declared.changes.PRow.{PRow as PRowValue};
 ghost use Rattle.pws_change.specs.Rising.{rises};
 ghost use Rattle.pws_change.specs.Rows.{p_entry, IsFoundAt, IsMissingAt};
 ghost use Rattle.pws_change.specs.Sets.{p_rows, with_prepared, trimmed};
 
-use pws_base::lists::ExactCopy;
+use pws_base::lists::{ExactCopy, Sequence, copy_all};
 use pws_base::memory::Memory;
 use pws_base::shapes::{Digest, Place, View};
 use pws_msg::changes::PRow;
@@ -22,6 +22,7 @@ use std::marker::Model;
 /// Contracts see it as a finite map.
 #[derive(Drop)]
 pub struct PSet {
+    /// By rising place.
     rows: Vec<PRow>,
 }
 
@@ -96,6 +97,24 @@ impl PSet {
         ensures rising { IsTrue (rises (λ a b. nat_lt a.place b.place) result.now) }
     {
         self.rows.as_slice()
+    }
+
+    /// How many places it has.
+    pub fn count(&self) -> usize
+        ensures { result ≡ len self.now }
+    {
+        self.rows().len()
+    }
+
+    /// A copy of its rows, as a view change holds them.
+    ///
+    /// # Errors
+    ///
+    /// `Memory` only.
+    pub fn to_rows(&self, alloc: Global) -> Result<Sequence<PRow>, Memory>
+        ensures { IfOk result (λ rows. rows ≡ p_rows self.now) }
+    {
+        copy_all(alloc, self.rows())
     }
 
     /// Notes that a digest was prepared at a place in a view, in place of what was noted there.

@@ -5,18 +5,19 @@ ghost use Rattle.std.specs.List.{count_by};
 ghost use Rattle.pws_base.specs.Shapes.{quorum_of, weak_of};
 ghost use Rattle.pws_msg.specs.declared.changes.Checkpoint.{Checkpoint as CheckpointValue};
 ghost use Rattle.pws_msg.specs.declared.changes.PRow.{PRow as PRowValue};
-ghost use Rattle.pws_change.specs.Best.{is_no_better, is_better, IsBest, rank_of_checkpoint, is_same_checkpoint, may_start, rank_of_row, is_same_row, is_candidate};
+ghost use Rattle.pws_change.specs.Best.{is_no_better, is_better, rank_of_checkpoint, may_start, rank_of_row, is_candidate};
+ghost use Rattle.pws_change.specs.Searched.{IsBest, is_same_checkpoint, is_same_row};
 ghost use Rattle.pws_change.specs.Changes.{allows_entry, is_witness};
 ghost use Rattle.pws_change.specs.Choices.{IsStart, HasNoStart, IsBestEntry, HasNoA, prepared_rows};
 
 use crate::counts::{allowing_entry, having_checkpoint, low_by, witnesses};
 use crate::digests::is_at_most;
-use crate::heard::Heard;
+use crate::heard::HeardRef;
 use pws_base::shapes::{Digest, GroupShape, Place};
 use pws_msg::changes::{Checkpoint, PRow};
 
 /// Whether a view may start from a checkpoint.
-fn may_start(changes: &[Heard], shape: GroupShape, c: &Checkpoint) -> bool
+fn may_start(changes: &[HeardRef<'_>], shape: GroupShape, c: &Checkpoint) -> bool
     ensures { result ≡ may_start shape changes.now c.now }
 {
     usize::from(shape.quorum()) <= low_by(changes, c.place)
@@ -42,7 +43,7 @@ fn is_later(c: &Checkpoint, best: &Option<Checkpoint>) -> bool
 
 /// Whether a checkpoint is better than the best before it, and a view may start from it.
 fn takes_checkpoint(
-    changes: &[Heard],
+    changes: &[HeardRef<'_>],
     shape: GroupShape,
     c: &Checkpoint,
     best: &Option<Checkpoint>,
@@ -54,7 +55,7 @@ fn takes_checkpoint(
 
 /// The best checkpoint, after one more.
 fn better_checkpoint(
-    changes: &[Heard],
+    changes: &[HeardRef<'_>],
     shape: GroupShape,
     c: &Checkpoint,
     best: Option<Checkpoint>,
@@ -72,7 +73,7 @@ fn better_checkpoint(
 
 /// The best checkpoint, after those of one change.
 fn best_checkpoint(
-    changes: &[Heard],
+    changes: &[HeardRef<'_>],
     shape: GroupShape,
     checkpoints: &[Checkpoint],
     best: Option<Checkpoint>,
@@ -89,18 +90,18 @@ fn best_checkpoint(
 }
 
 /// The checkpoint that a view starts from.
-pub(crate) fn start_of(changes: &[Heard], shape: GroupShape) -> Option<Checkpoint>
+pub(crate) fn start_of(changes: &[HeardRef<'_>], shape: GroupShape) -> Option<Checkpoint>
     ensures { MatchOption result (HasNoStart shape changes.now) (λ c. IsStart shape changes.now c.place c.digest) }
 {
     let mut found = None;
     for h in changes {
-        found = best_checkpoint(changes, shape, h.change.checkpoints.as_slice(), found);
+        found = best_checkpoint(changes, shape, h.checkpoints(), found);
     }
     found
 }
 
 /// Whether a quorum of the changes allow a row's entry, and f + 1 are witnesses of it.
-fn meets_a(changes: &[Heard], shape: GroupShape, place: Place, r: &PRow) -> bool
+fn meets_a(changes: &[HeardRef<'_>], shape: GroupShape, place: Place, r: &PRow) -> bool
     ensures { result ≡ (nat_le (quorum_of shape) (count_by (allows_entry place r.now.digest r.now.view) changes.now) && nat_le (weak_of shape) (count_by (is_witness place r.now.digest r.now.view) changes.now)) }
 {
     usize::from(shape.quorum()) <= allowing_entry(changes, place, &r.digest, r.view)
@@ -108,7 +109,7 @@ fn meets_a(changes: &[Heard], shape: GroupShape, place: Place, r: &PRow) -> bool
 }
 
 /// Whether a row is an entry at the place that meets A.
-fn is_candidate(changes: &[Heard], shape: GroupShape, place: Place, r: &PRow) -> bool
+fn is_candidate(changes: &[HeardRef<'_>], shape: GroupShape, place: Place, r: &PRow) -> bool
     ensures { result ≡ is_candidate shape changes.now place r.now }
 {
     r.place == place && meets_a(changes, shape, place, r)
@@ -126,7 +127,7 @@ fn is_newer(r: &PRow, best: &Option<PRow>) -> bool
 
 /// Whether a row is better than the best before it, and is an entry at the place that meets A.
 fn takes_row(
-    changes: &[Heard],
+    changes: &[HeardRef<'_>],
     shape: GroupShape,
     place: Place,
     r: &PRow,
@@ -139,7 +140,7 @@ fn takes_row(
 
 /// The best entry at a place, after one more row.
 fn better_entry(
-    changes: &[Heard],
+    changes: &[HeardRef<'_>],
     shape: GroupShape,
     place: Place,
     r: &PRow,
@@ -158,7 +159,7 @@ fn better_entry(
 
 /// The best entry at a place, after the rows of one change.
 fn best_entry(
-    changes: &[Heard],
+    changes: &[HeardRef<'_>],
     shape: GroupShape,
     place: Place,
     rows: &[PRow],
@@ -176,12 +177,12 @@ fn best_entry(
 }
 
 /// The best entry at a place that meets A.
-pub(crate) fn entry_at(changes: &[Heard], shape: GroupShape, place: Place) -> Option<PRow>
+pub(crate) fn entry_at(changes: &[HeardRef<'_>], shape: GroupShape, place: Place) -> Option<PRow>
     ensures { MatchOption result (HasNoA shape changes.now place) (λ r. IsBestEntry shape changes.now place r.digest r.view) }
 {
     let mut found = None;
     for h in changes {
-        found = best_entry(changes, shape, place, h.change.prepared.as_slice(), found);
+        found = best_entry(changes, shape, place, h.prepared(), found);
     }
     found
 }

@@ -3,9 +3,11 @@
 ghost use Rattle.std.specs.Prelude.{◌≡◌, ◌<◌, ◌≤◌, ◌↔◌, ◌&&◌, nat_lt, nat_le, length, IsTrue};
 ghost use Rattle.std.specs.List.{list_all};
 ghost use Rattle.pws_change.specs.Rising.{rises, is_digest_below};
-ghost use Rattle.pws_change.specs.Valid.{begins_at, is_checkpoint_valid, are_checkpoints_valid, is_above, is_p_row_valid, are_p_rows_valid, are_digests_valid, is_q_row_valid, are_q_rows_valid, IsValid};
+ghost use Rattle.pws_change.specs.Valid.{begins_at, is_checkpoint_valid, are_checkpoints_valid, is_p_row_valid, are_p_rows_valid, are_digests_valid, is_q_row_valid, are_q_rows_valid, is_valid, IsValid};
 
 use crate::digests::{is_below, is_same};
+use pws_base::limits::{CHECKPOINT_DISTANCE, PLACE_WINDOW};
+use pws_base::places::is_in_window;
 use pws_base::shapes::{Place, View};
 use pws_msg::changes::{Checkpoint, PRow, QRow, Seen, ViewChange};
 
@@ -13,8 +15,8 @@ use pws_msg::changes::{Checkpoint, PRow, QRow, Seen, ViewChange};
 fn is_checkpoint_valid(c: &Checkpoint, low: Place) -> bool
     ensures { result ≡ is_checkpoint_valid low c.now }
 {
-    c.place % 16 == 0
-        && c.place <= low.saturating_add(32)
+    c.place % CHECKPOINT_DISTANCE == 0
+        && c.place <= low.saturating_add(PLACE_WINDOW)
         && (c.place != 0 || is_same(&c.digest, &[0; 32]))
 }
 
@@ -49,18 +51,11 @@ fn are_checkpoints_valid(checkpoints: &[Checkpoint], low: Place) -> bool
     are_each_valid(checkpoints, low) && checkpoints_rise(checkpoints) && begins_at(checkpoints, low)
 }
 
-/// Whether a place is one of the 32 above the low mark.
-fn is_above(low: Place, place: Place) -> bool
-    ensures { result ≡ is_above low place }
-{
-    low < place && place <= low.saturating_add(32)
-}
-
 /// Whether a prepared row is valid.
 fn is_p_row_valid(r: &PRow, low: Place, view: View) -> bool
     ensures { result ≡ is_p_row_valid low view r.now }
 {
-    is_above(low, r.place) && r.view < view
+    is_in_window(low, r.place) && r.view < view
 }
 
 /// Whether each prepared row is valid.
@@ -112,7 +107,7 @@ fn are_digests_valid(digests: &[Seen], view: View) -> bool
 fn is_q_row_valid(r: &QRow, low: Place, view: View) -> bool
     ensures { result ≡ is_q_row_valid low view r.now }
 {
-    is_above(low, r.place) && are_digests_valid(r.digests.as_slice(), view)
+    is_in_window(low, r.place) && are_digests_valid(r.digests.as_slice(), view)
 }
 
 /// Whether each pre-prepared row is valid.
@@ -136,16 +131,24 @@ fn are_q_rows_valid(rows: &[QRow], low: Place, view: View) -> bool
     are_q_rows_each_valid(rows, low, view) && q_rows_rise(rows)
 }
 
+/// Whether a view change meets all of the conditions.
+fn meets_all(change: &ViewChange) -> bool
+    ensures { IsTrue result ↔ IsValid change.now }
+{
+    1 <= change.view
+        && change.low % CHECKPOINT_DISTANCE == 0
+        && are_checkpoints_valid(change.checkpoints.as_slice(), change.low)
+        && are_p_rows_valid(change.prepared.as_slice(), change.low, change.view)
+        && are_q_rows_valid(change.pre_prepared.as_slice(), change.low, change.view)
+}
+
 /// Whether a view change is valid: its view is at least 1; its low mark is a multiple of 16, and so are the places of its
 /// checkpoints, which rise, begin with the low mark and end at most 32 places above it, and of which the one at 0 has 32
 /// zeros; its rows rise by place within the 32 above the low mark; a pre-prepared row has 1 to 16 digests, rising; and
 /// all views of rows are below its own.
 pub fn valid(change: &ViewChange) -> bool
-    ensures { IsTrue result ↔ IsValid change.now }
+    ensures valid { IsTrue result ↔ IsValid change.now }
+    ensures value { result ≡ is_valid change.now }
 {
-    1 <= change.view
-        && change.low % 16 == 0
-        && are_checkpoints_valid(change.checkpoints.as_slice(), change.low)
-        && are_p_rows_valid(change.prepared.as_slice(), change.low, change.view)
-        && are_q_rows_valid(change.pre_prepared.as_slice(), change.low, change.view)
+    meets_all(change)
 }

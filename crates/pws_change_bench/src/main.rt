@@ -10,7 +10,7 @@ use pws_base::lists::Sequence;
 use pws_base::shapes::{Digest, GroupShape};
 use pws_change::choices::choose;
 use pws_change::decisions::Decision;
-use pws_change::heard::Heard;
+use pws_change::heard::{Heard, HeardRef, lend_all};
 use pws_msg::changes::{Checkpoint, PRow, QRow, Seen, ViewChange};
 use std::alloc::Global;
 use std::env;
@@ -77,7 +77,7 @@ fn change(alloc: Global, index: u8, is_worst: bool) -> anyhow::Result<Heard> {
 }
 
 /// How many digests a list of changes chooses.
-fn chosen(alloc: Global, changes: &[Heard], shape: GroupShape) -> anyhow::Result<usize> {
+fn chosen(alloc: Global, changes: &[HeardRef<'_>], shape: GroupShape) -> anyhow::Result<usize> {
     match choose(alloc, changes, shape)? {
         Decision::Chosen(choice) => Ok(choice.chosen.len()),
         Decision::Undecided { place: _ } => Ok(0),
@@ -91,9 +91,10 @@ fn decide(alloc: Global, is_worst: bool, times: u32) -> anyhow::Result<usize> {
     for index in 0..10u8 {
         changes.push(change(alloc, index, is_worst)?)?;
     }
+    let lent = lend_all(alloc, &changes)?;
     let mut total = 0usize;
     for _ in 0..times {
-        total = total.saturating_add(chosen(alloc, &changes, shape)?);
+        total = total.saturating_add(chosen(alloc, &lent, shape)?);
     }
     Ok(total)
 }

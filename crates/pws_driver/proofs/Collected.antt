@@ -3,7 +3,7 @@ use Rattle.std.proofs.Common.{◌≡◌, ℕ, ◌+◌, ◌<◌, List, [], ◌∷
 use Rattle.std.specs.List.{filter_map, cons_option}
 use Rattle.std.proofs.lemmas.List.Elements.{filter_map-append}
 use Rattle.std.proofs.lemmas.List.{take_more}
-use Rattle.pws_driver.specs.declared.keys.Key.{Key}
+use Rattle.pws_service.specs.declared.keys.Key.{Key}
 use Rattle.pws_driver.specs.declared.cores.Core.{Core}
 use Rattle.pws_driver.specs.Values.{call_of}
 use Rattle.pws_driver.specs.Moves.{held}

@@ -1,7 +1,7 @@
 -- A step, by what the code did.
 use Rattle.std.proofs.Common.{◌≡◌, true, false, List, Some, None, sym, ap, ◌∙◌}
 use Rattle.pws_event.specs.declared.events.Event.{Event}
-use Rattle.pws_driver.specs.declared.acts.Act.{Act}
+use Rattle.pws_service.specs.declared.acts.Act.{Act}
 use Rattle.pws_driver.specs.declared.cores.Core.{Core}
 use Rattle.pws_driver.specs.Services.{Service}
 use Rattle.pws_driver.specs.Moves.{Moved}
@@ -9,7 +9,7 @@ use Rattle.pws_driver.specs.Instructions.{begin}
 use Rattle.pws_driver.specs.Takings.{wants, takes, is_ready}
 use Rattle.pws_driver.specs.Did.{DidMove}
 use Rattle.pws_driver.specs.Runs.{run_at, first_of, moved, step}
-use Rattle.pws_driver.specs.RunLaws.{step_none_over}
+use Rattle.pws_driver.specs.Lemmas.RunLaws.{step_none_over}
 
 moved_by : (m : Moved) (c : Core) (u : List Event) (as0 bs : List Act) → DidMove m c as0 bs → run_at c u bs ≡ moved m u as0
 moved_by m c u as0 bs d = ap (λ (x : Core). run_at x u bs) d.core ∙ ap (λ (x : List Act). run_at m.core u x) d.acts

@@ -1,13 +1,17 @@
 -- What the parts of the runner answer.
 use Rattle.std.specs.Prelude.{◌≡◌, List, [], ◌∷◌, ◌++◌, Option, Some, None}
 use Rattle.pws_event.specs.declared.events.Event.{Event}
-use Rattle.pws_driver.specs.declared.acts.Act.{Act}
+use Rattle.pws_service.specs.declared.acts.Act.{Act}
 use Rattle.pws_driver.specs.declared.cores.Core.{Core}
 use Rattle.pws_driver.specs.declared.instructions.Done.{Done}
 use Rattle.pws_driver.specs.declared.instructions.Done.TheVariants.{Fault, Quiet, Acted}
 use Rattle.pws_script.specs.declared.instructions.Instruction.{Instruction}
 use Rattle.pws_script.specs.declared.instructions.Instruction.TheVariants as line
-use Rattle.pws_driver.specs.Services.{Service}
+use Rattle.pws_driver.specs.declared.machines.Machine.{Machine}
+use Rattle.pws_driver.specs.declared.programs.Program.{Program}
+use Rattle.pws_driver.specs.Envelopes.{EnvelopeWords}
+use Rattle.pws_driver.specs.Services.{Service, service_of}
+use Rattle.pws_driver.specs.Runs.{acts_of, IsAt}
 use Rattle.pws_driver.specs.Moves.{Moved, quiet}
 use Rattle.pws_driver.specs.Instructions.{add_by, sub_by, less_by, same_by, join_by, field_by}
 
@@ -21,6 +25,14 @@ Did (Acted a) old new wanted = wanted ≡ Some (record { core = new; acts = a �
 pub record DidMove (m : Moved) (left : Core) (before behind : List Act) : Type 0 where
   pub core : left ≡ m.core
   pub acts : behind ≡ before ++ m.acts
+
+-- a suspended script is where the run of the program on these effects ended
+abbrev pub HasRun : EnvelopeWords → Program → Machine → List Event → Type 0
+HasRun words p m es = IsAt (service_of words p) m.core m.untaken es
+
+-- what one effect more brings
+abbrev pub BringsActs : EnvelopeWords → Program → List Event → Event → List Act → Type 0
+BringsActs words p es e acts = acts_of (service_of words p) (es ++ e ∷ []) ≡ acts_of (service_of words p) es ++ acts
 
 -- the first event that is wanted was taken out
 abbrev pub TookFirst : Option Event → List Event → List Event → Option (Event × List Event) → Type 0

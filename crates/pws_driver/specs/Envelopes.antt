@@ -1,7 +1,8 @@
 -- What the texts of envelopes mean to a service. A message is the text of an envelope: that of a request or reply as it
 -- came, or that of a fault made here.
 use Rattle.std.specs.Prelude.{◌≡◌, ℕ, ◌≤◌, Bool, List, length, Option, Some}
-use Rattle.pws_driver.specs.declared.keys.Key.{Key}
+use Rattle.pws_base.specs.Limits.{max_body}
+use Rattle.pws_service.specs.declared.keys.Key.{Key}
 
 pub record EnvelopeWords : Type 0 where
   -- the text of a call of the group me, of which the key names the called group, with a text in its body; None where it
@@ -27,7 +28,7 @@ pub record EnvelopeWords : Type 0 where
 
 -- what is made here fits into a body, which has at most 32,768 bytes
 pub record TextsFit (words : EnvelopeWords) : Type 0 where
-  pub call : (me : ℕ) (key : Key) (text body : List ℕ) → words.call_text me key text ≡ Some body → length body ≤ 32768
-  pub refusal : (me : ℕ) (key : Key) (request body : List ℕ) → words.refusal_of me key request ≡ Some body → length body ≤ 32768
-  pub reply : (me : ℕ) (key : Key) (message text : List ℕ) → length (words.reply_text me key message text) ≤ 32768
-  pub halted : (me : ℕ) (key : Key) (request : List ℕ) → length (words.halted_text me key request) ≤ 32768
+  pub call : (me : ℕ) (key : Key) (text body : List ℕ) → words.call_text me key text ≡ Some body → length body ≤ max_body
+  pub refusal : (me : ℕ) (key : Key) (request body : List ℕ) → words.refusal_of me key request ≡ Some body → length body ≤ max_body
+  pub reply : (me : ℕ) (key : Key) (message text : List ℕ) → length (words.reply_text me key message text) ≤ max_body
+  pub halted : (me : ℕ) (key : Key) (request : List ℕ) → length (words.halted_text me key request) ≤ max_body

@@ -3,14 +3,15 @@
 use Rattle.std.specs.Prelude.{ℕ, ◌+◌, ◌-◌, ◌*◌, ◌%◌, ◌^◌, ◌==◌, ◌&&◌, ◌||◌, not, Bool, true, false, nat_lt, nat_le, if◌then◌else◌, List, [], ◌∷◌, ◌++◌, length, slice_get, slice_set, slice_index, Option, Some, None}
 use Rattle.std.specs.List.{list_any, filter_map, find}
 use Rattle.std.specs.Option.{option_map, option_and_then, option_map_or, unwrap_or}
+use Rattle.pws_base.specs.Limits.{max_number, call_window}
 use Rattle.rand_chacha.specs.ChaCha.{ChaCha, word_at}
 use Rattle.pws_script.specs.declared.instructions.Literal.{Literal}
 use Rattle.pws_script.specs.declared.instructions.Literal.TheVariants as literal
 use Rattle.pws_script.specs.declared.instructions.Instruction.{Instruction}
 use Rattle.pws_script.specs.declared.instructions.Instruction.TheVariants as line
-use Rattle.pws_driver.specs.declared.keys.Key.{Key}
-use Rattle.pws_driver.specs.declared.acts.Act.{Act}
-use Rattle.pws_driver.specs.declared.acts.Act.TheVariants as act
+use Rattle.pws_service.specs.declared.keys.Key.{Key}
+use Rattle.pws_service.specs.declared.acts.Act.{Act}
+use Rattle.pws_service.specs.declared.acts.Act.TheVariants as act
 use Rattle.pws_driver.specs.declared.values.Value.{Value}
 use Rattle.pws_driver.specs.declared.values.Value.TheVariants as value
 use Rattle.pws_driver.specs.declared.cores.Answers.TheVariants as answers
@@ -20,7 +21,7 @@ use Rattle.pws_driver.specs.declared.cores.Core.{Core}
 use Rattle.pws_driver.specs.Services.{Service}
 use Rattle.pws_driver.specs.Keys.{has_key, without}
 use Rattle.pws_driver.specs.Values.{number_of, text_of, digits_or_text_of, call_of, request_of, message_of, same_value}
-use Rattle.pws_driver.specs.Moves.{Moved, quiet, halted, waiting, held, put}
+use Rattle.pws_driver.specs.Moves.{Moved, max_text, quiet, halted, waiting, held, put}
 
 -- ---- instructions that put a value
 
@@ -51,9 +52,9 @@ bit_of b = value.Number (if b then 1 else 0)
 abbrev pub less_of : ℕ → ℕ → Option Value
 less_of a b = Some (bit_of (nat_lt a b))
 
--- a text has at most 16,384 bytes
+-- a text in a register has a bound
 abbrev pub bounded : List ℕ → Option Value
-bounded t = if nat_le (length t) 16384 then Some (value.Text t) else None
+bounded t = if nat_le (length t) max_text then Some (value.Text t) else None
 
 abbrev pub joined_of : List ℕ → List ℕ → Option Value
 joined_of s t = bounded (s ++ t)
@@ -94,11 +95,11 @@ jump_by c l a = option_map (λ n. quiet (jumped c l n)) (number_of (held c a))
 abbrev pub low_of : Core → ℕ → ℕ → ℕ
 low_of c g number = option_map_or (λ k. k.number) (find (λ k. k.group == g) c.pending) number
 
--- whether a call is lawful: to another group of the layout, with a number up to 1,000,000 among the sixteen from the
+-- whether a call is lawful: to another group of the layout, with a number in range and within the window from the
 -- low number on
 abbrev pub may_call : Service → ℕ → ℕ → ℕ → Bool
 may_call s g number low =
-    nat_lt g (length s.layout) && not (g == s.me) && nat_le number 1000000 && nat_lt number (low + 16)
+    nat_lt g (length s.layout) && not (g == s.me) && nat_le number max_number && nat_lt number (low + call_window)
 
 abbrev pub called_with : Core → ℕ → ℕ → ℕ → ℕ → List ℕ → ℕ → Moved
 called_with c d g number low body ms =
@@ -146,8 +147,8 @@ await_any_by c d m among = await_calls c (Some d) m (calls_in c among)
 
 abbrev pub answer_with : Service → Core → (Key × List ℕ) → List ℕ → Option Moved
 answer_with s c q text =
-    if has_key c.asked q.0
-    then Some (record { core = record c { asked = without q.0 c.asked }; acts = act.Reply q.0.group q.0.number (s.words.reply_text s.me q.0 q.1 text) ∷ [] })
+    if has_key c.open_requests q.0
+    then Some (record { core = record c { open_requests = without q.0 c.open_requests }; acts = act.Reply q.0.group q.0.number (s.words.reply_text s.me q.0 q.1 text) ∷ [] })
     else None
 
 abbrev pub reply_by : Service → Core → ℕ → ℕ → Option Moved
@@ -155,9 +156,9 @@ reply_by s c r t = option_and_then (λ q. option_and_then (answer_with s c q) (t
 
 -- ---- the agreed time and the agreed seed
 
--- the next ask, of at most 1,000,000
+-- the next ask, of at most as many as a number can tell
 abbrev pub ask_by : Core → Mode → (ℕ → Act) → Option Moved
-ask_by c m ask = if nat_le 1000000 c.asks then None else Some (record { core = record c { mode = m; asks = c.asks + 1 }; acts = ask (c.asks + 1) ∷ [] })
+ask_by c m ask = if nat_le max_number c.asks then None else Some (record { core = record c { mode = m; asks = c.asks + 1 }; acts = ask (c.asks + 1) ∷ [] })
 
 abbrev pub clock_by : Core → ℕ → Option Moved
 clock_by c d = ask_by c (mode.AskingClock d) (λ ask. act.AskClock ask)

@@ -1,11 +1,8 @@
 -- Calls by their keys.
-use Rattle.std.specs.Prelude.{◌==◌, ◌&&◌, not, Bool, List}
+use Rattle.std.specs.Prelude.{not, Bool, List}
 use Rattle.std.specs.List.{list_any, filter}
-use Rattle.pws_driver.specs.declared.keys.Key.{Key}
-
--- whether both are one call
-abbrev pub same_key : Key → Key → Bool
-same_key a b = a.group == b.group && a.number == b.number
+use Rattle.pws_service.specs.declared.keys.Key.{Key}
+use Rattle.pws_service.specs.Keys.{same_key}
 
 -- whether the call is among these
 abbrev pub has_key : List Key → Key → Bool

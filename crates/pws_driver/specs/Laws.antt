@@ -1,13 +1,14 @@
 -- What follows from the definition of runs; this project's own.
-use Rattle.std.specs.Prelude.{◌≡◌, ℕ, List, [], ◌++◌}
+use Rattle.std.specs.Prelude.{◌≡◌, ◌≤◌, List, [], ◌++◌, length}
+use Rattle.pws_base.specs.Limits.{max_groups}
 use Rattle.pws_event.specs.declared.events.Event.{Event}
-use Rattle.pws_driver.specs.declared.acts.Act.{Act}
+use Rattle.pws_service.specs.declared.acts.Act.{Act}
 use Rattle.pws_driver.specs.Envelopes.{TextsFit}
 use Rattle.pws_driver.specs.Services.{Service}
 use Rattle.pws_driver.specs.Runs.{acts_of, run_of, finish, resumed, after, IsOver}
-use Rattle.pws_driver.specs.Drivers.{IsPrefix}
-use Rattle.pws_driver.specs.Effects.{InTurn, effects_of}
-use Rattle.pws_driver.specs.Lawful.{LawfulCalls, LawfulReplies, LawfulAsks}
+use Rattle.pws_service.specs.Drivers.{IsPrefix}
+use Rattle.pws_service.specs.Effects.{InTurn}
+use Rattle.pws_service.specs.Lawful.{LawfulCalls, LawfulReplies, LawfulAsks}
 
 -- nothing more could be done at the end of a run
 abbrev pub RunsEnd : Type 0
@@ -21,8 +22,9 @@ RunsGoOn = (s : Service) (earlier later : List Event) → run_of s (earlier ++ l
 abbrev pub ActsGrow : Type 0
 ActsGrow = (s : Service) (earlier later : List Event) → IsPrefix (acts_of s earlier) (acts_of s (earlier ++ later))
 
+-- in a layout of as many groups as there can be
 abbrev pub CallsAreLawful : Type 0
-CallsAreLawful = (s : Service) (effects : List Event) → TextsFit s.words → LawfulCalls s.me s.layout effects [] (acts_of s effects)
+CallsAreLawful = (s : Service) (effects : List Event) → length s.layout ≤ max_groups → TextsFit s.words → LawfulCalls s.me s.layout effects [] (acts_of s effects)
 
 -- where each effect took effect in turn
 abbrev pub RepliesAreLawful : Type 0
@@ -30,7 +32,3 @@ RepliesAreLawful = (s : Service) (effects : List Event) → TextsFit s.words →
 
 abbrev pub AsksAreLawful : Type 0
 AsksAreLawful = (s : Service) (effects : List Event) → LawfulAsks effects [] (acts_of s effects)
-
--- the events of a list that take effect do so in turn
-abbrev pub EffectsAreInTurn : Type 0
-EffectsAreInTurn = (me : ℕ) (layout : List ℕ) (serve : List Event → List Act) (events : List Event) → InTurn me layout serve [] (effects_of me layout serve events)

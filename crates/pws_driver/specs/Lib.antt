@@ -1,27 +1,16 @@
-pub mod AskRuns
-pub mod CallLaws
-pub mod CallRuns
-pub mod Cases
-pub mod Counts
-pub mod Did
-pub mod Drivers
-pub mod EffectLaws
-pub mod Effects
+-- To be believed, in the order of reading.
 pub mod Envelopes
-pub mod Firsts
-pub mod Instructions
-pub mod Kept
-pub mod KeyLists
-pub mod Keys
-pub mod Lawful
-pub mod Laws
-pub mod Moves
-pub mod Places
-pub mod ReplyLaws
-pub mod ReplyRuns
-pub mod RunLaws
-pub mod Runs
 pub mod Services
-pub mod Takings
 pub mod Values
+pub mod Keys
+pub mod Moves
+pub mod Instructions
+pub mod Takings
 pub mod Zeros
+pub mod Runs
+pub mod Laws
+-- What the private parts of the runner say of one another.
+pub mod Did
+pub mod Places
+-- For the proofs alone.
+pub mod Lemmas

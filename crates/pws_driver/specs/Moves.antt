@@ -1,7 +1,7 @@
 -- What one move of a script comes to: its state after it, and its acts; this project's own rules.
 use Rattle.std.specs.Prelude.{ℕ, ◌-◌, ◌+◌, List, [], ◌∷◌, slice_set, slice_index_or, Option, Some, None}
-use Rattle.pws_driver.specs.declared.acts.Act.{Act}
-use Rattle.pws_driver.specs.declared.acts.Act.TheVariants as act
+use Rattle.pws_service.specs.declared.acts.Act.{Act}
+use Rattle.pws_service.specs.declared.acts.Act.TheVariants as act
 use Rattle.pws_driver.specs.declared.values.Value.{Value}
 use Rattle.pws_driver.specs.declared.values.Value.TheVariants as value
 use Rattle.pws_driver.specs.declared.cores.Wait.{Wait}
@@ -11,6 +11,10 @@ use Rattle.pws_driver.specs.declared.cores.Core.{Core}
 -- the instructions between two takings
 abbrev pub budget : ℕ
 budget = 10000
+
+-- the longest text in a register, in bytes
+abbrev pub max_text : ℕ
+max_text = 16384
 
 pub record Moved : Type 0 where
   pub core : Core

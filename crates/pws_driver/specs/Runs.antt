@@ -2,7 +2,7 @@
 use Rattle.std.specs.Prelude.{◌≡◌, ℕ, zero, suc, ◌+◌, ◌*◌, Bool, if◌then◌else◌, List, [], ◌∷◌, ◌++◌, length, Option, Some, None, replicate}
 use Rattle.std.specs.Option.{option_map}
 use Rattle.pws_event.specs.declared.events.Event.{Event}
-use Rattle.pws_driver.specs.declared.acts.Act.{Act}
+use Rattle.pws_service.specs.declared.acts.Act.{Act}
 use Rattle.pws_driver.specs.declared.cores.Mode.TheVariants as mode
 use Rattle.pws_driver.specs.declared.cores.Core.{Core}
 use Rattle.pws_driver.specs.Services.{Service}
@@ -50,7 +50,7 @@ unfoldable pub enough : List Event → ℕ
 enough effects = (budget + 2) * (length effects + 1)
 
 unfoldable pub fresh_core : Core
-fresh_core = record { mode = mode.Ready; line = 0; left = budget; registers = zeros; called = replicate 16 0; pending = []; asked = []; asks = 0; clock = 0; stream = None }
+fresh_core = record { mode = mode.Ready; line = 0; left = budget; registers = zeros; called = replicate 16 0; pending = []; open_requests = []; asks = 0; clock = 0; stream = None }
 
 abbrev pub fresh : List Event → Run
 fresh effects = record { core = fresh_core; untaken = effects; acts = [] }

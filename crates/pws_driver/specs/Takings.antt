@@ -6,9 +6,9 @@ use Rattle.pws_event.specs.Answers.{ReplyFields, AbortFields}
 use Rattle.pws_event.specs.Times.{agreed_time, agreed_seed}
 use Rattle.pws_event.specs.declared.events.Event.{Event}
 use Rattle.pws_event.specs.declared.events.Event.TheVariants as event
-use Rattle.pws_driver.specs.declared.keys.Key.{Key}
-use Rattle.pws_driver.specs.declared.acts.Act.{Act}
-use Rattle.pws_driver.specs.declared.acts.Act.TheVariants as act
+use Rattle.pws_service.specs.declared.keys.Key.{Key}
+use Rattle.pws_service.specs.declared.acts.Act.{Act}
+use Rattle.pws_service.specs.declared.acts.Act.TheVariants as act
 use Rattle.pws_driver.specs.declared.values.Value.{Value}
 use Rattle.pws_driver.specs.declared.values.Value.TheVariants as value
 use Rattle.pws_driver.specs.declared.cores.Answers.{Answers}
@@ -18,19 +18,10 @@ use Rattle.pws_driver.specs.declared.cores.Mode.{Mode}
 use Rattle.pws_driver.specs.declared.cores.Mode.TheVariants as mode
 use Rattle.pws_driver.specs.declared.cores.Core.{Core}
 use Rattle.pws_driver.specs.Services.{Service}
+use Rattle.pws_service.specs.Keys.{request_key, reply_key, abort_key}
+use Rattle.pws_service.specs.Lawful.{is_clock, is_random}
 use Rattle.pws_driver.specs.Keys.{has_key, without}
 use Rattle.pws_driver.specs.Moves.{Moved, budget, quiet, put}
-
--- ---- keys of events
-
-abbrev pub request_key : RequestFields → Key
-request_key r = record { group = r.caller; number = r.number }
-
-abbrev pub reply_key : ReplyFields → Key
-reply_key r = record { group = r.called; number = r.number }
-
-abbrev pub abort_key : AbortFields → Key
-abort_key a = record { group = a.called; number = a.number }
 
 -- ---- what is taken next
 
@@ -45,22 +36,6 @@ wanted_by w (event.Reply r) = among_answers w.answers (reply_key r)
 wanted_by w (event.Abort a) = among_answers w.answers (abort_key a)
 wanted_by w (event.Clock c) = false
 wanted_by w (event.Random r) = false
-
-abbrev pub is_clock : ℕ → Event → Bool
-is_clock ask event.Null = false
-is_clock ask (event.Request r) = false
-is_clock ask (event.Reply r) = false
-is_clock ask (event.Abort a) = false
-is_clock ask (event.Clock c) = c.ask == ask
-is_clock ask (event.Random r) = false
-
-abbrev pub is_random : ℕ → Event → Bool
-is_random ask event.Null = false
-is_random ask (event.Request r) = false
-is_random ask (event.Reply r) = false
-is_random ask (event.Abort a) = false
-is_random ask (event.Clock c) = false
-is_random ask (event.Random r) = r.ask == ask
 
 -- a halted script takes all
 abbrev pub wants_in : Mode → ℕ → Event → Bool
@@ -90,7 +65,7 @@ hand w c v m = put (put_key w.key c v) w.message (value.Message m)
 
 -- a refused request is answered with its fault, and the wait goes on
 abbrev pub request_taken : Wait → Core → Key → List ℕ → Option (List ℕ) → Moved
-request_taken w c k body None = quiet (hand w (record (ready c) { asked = c.asked ++ k ∷ [] }) (value.Request k body) body)
+request_taken w c k body None = quiet (hand w (record (ready c) { open_requests = c.open_requests ++ k ∷ [] }) (value.Request k body) body)
 request_taken w c k body (Some fault) = record { core = record c { left = budget }; acts = act.Reply k.group k.number fault ∷ [] }
 
 abbrev pub take_request : Service → Wait → Core → RequestFields → Moved

@@ -1,8 +1,8 @@
 -- What a register holds, by kind; this project's own rules.
 use Rattle.std.specs.Prelude.{ℕ, ◌==◌, ◌&&◌, Bool, true, false, List, decimal, Option, Some, None}
 use Rattle.std.specs.Str.{bytes_eq}
-use Rattle.pws_driver.specs.declared.keys.Key.{Key}
-use Rattle.pws_driver.specs.Keys.{same_key}
+use Rattle.pws_service.specs.declared.keys.Key.{Key}
+use Rattle.pws_service.specs.Keys.{same_key}
 use Rattle.pws_driver.specs.declared.values.Value.{Value}
 use Rattle.pws_driver.specs.declared.values.Value.TheVariants as value
 

@@ -5,16 +5,18 @@ ghost use Rattle.pws_driver.specs.Services.{service_of};
 ghost use Rattle.pws_driver.specs.Instructions.{low_of, call_by, receive_by, next_by, await_calls, await_by, calls_in, await_any_by, reply_by};
 ghost use Rattle.pws_driver.specs.Did.{Did};
 
-use crate::acts::Act;
 use crate::cores::{Answers, Core, Mode, Wait};
 use crate::envelopes::Envelopes;
 use crate::instructions::Done;
-use crate::keys::{Key, Keys};
+use crate::keys::Keys;
 use crate::programs::Program;
 use crate::values::Value;
+use pws_base::limits::{CALL_WINDOW, MAX_NUMBER};
 use pws_base::memory::Memory;
 use pws_base::shapes::{GroupId, Number};
 use pws_script::operands::{Calls, Group, Register};
+use pws_service::acts::Act;
+use pws_service::keys::Key;
 use std::alloc::Global;
 
 impl Core {
@@ -71,19 +73,19 @@ impl Core {
             return Ok(Done::Fault);
         }
         let called = self.called[group as usize];
-        if called >= 1000000 {
+        if called >= MAX_NUMBER {
             return Ok(Done::Fault);
         }
         let number = called + 1;
         let low = self.low(group, number);
-        if number as u64 >= low as u64 + 16 {
+        if number as u64 >= low as u64 + CALL_WINDOW as u64 {
             return Ok(Done::Fault);
         }
         let key = Key { group, number };
         let Some(text) = self.registers.get(text).text() else {
             return Ok(Done::Fault);
         };
-        let Some(body) = E::call_text(alloc, program.me, key, text.as_str())? else {
+        let Some(body) = E::call_text(alloc, program.me, key, text)? else {
             return Ok(Done::Fault);
         };
         self.called[group as usize] = number;
@@ -173,11 +175,11 @@ impl Core {
         let Some(text) = self.registers.get(text).text() else {
             return Ok(Done::Fault);
         };
-        if !self.asked.has(key) {
+        if !self.open_requests.has(key) {
             return Ok(Done::Fault);
         }
-        let body = E::reply_text(alloc, program.me, key, message.as_slice(), text.as_str())?;
-        self.asked.remove(key);
+        let body = E::reply_text(alloc, program.me, key, message.as_slice(), text)?;
+        self.open_requests.remove(key);
         Ok(Done::Acted(Act::Reply {
             caller: key.group,
             number: key.number,

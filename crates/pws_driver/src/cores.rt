@@ -11,6 +11,9 @@ use pws_script::operands::Register;
 use rand_chacha::ChaCha20Rng;
 use std::alloc::Global;
 
+/// How many instructions a script may start between two effects that it takes.
+pub(crate) const BUDGET: u32 = 10_000;
+
 /// Which answers a wait takes: those of any call, or those of some.
 #[derive(Debug, Drop)]
 pub(crate) enum Answers {
@@ -64,7 +67,7 @@ pub(crate) struct Core {
     /// The calls whose answers the script hasn't taken, in order.
     pub pending: Keys,
     /// The requests that were taken and not answered, in order.
-    pub asked: Keys,
+    pub open_requests: Keys,
     /// The number of the last ask.
     pub asks: u32,
     /// The last agreed time, in milliseconds; 0 before the first.
@@ -128,11 +131,11 @@ impl Core {
         Ok(Core {
             mode: Mode::Ready,
             line: 0,
-            left: 10000,
+            left: BUDGET,
             registers: Registers::new(alloc)?,
             called: [0; 16],
             pending: Keys::new(alloc),
-            asked: Keys::new(alloc),
+            open_requests: Keys::new(alloc),
             asks: 0,
             clock: 0,
             stream: None,
@@ -149,7 +152,7 @@ impl ExactCopy for Core {
             registers: self.registers.copy(alloc)?,
             called: self.called,
             pending: self.pending.copy(alloc)?,
-            asked: self.asked.copy(alloc)?,
+            open_requests: self.open_requests.copy(alloc)?,
             asks: self.asks,
             clock: self.clock,
             stream: copy_stream(&self.stream)?,

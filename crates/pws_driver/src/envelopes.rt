@@ -1,13 +1,12 @@
 //! What the texts of envelopes mean to a service.
 
-ghost use Rattle.std.specs.Prelude.{◌≡◌, IfOk, IsTrue};
-ghost use Rattle.pws_tree.specs.Characters.{is_xml_text};
+ghost use Rattle.std.specs.Prelude.{◌≡◌, IfOk};
 ghost use Rattle.pws_driver.specs.Envelopes.{EnvelopeWords, TextsFit};
 
-use crate::keys::Key;
 use pws_base::bytes::Bytes;
 use pws_base::memory::Memory;
 use pws_base::shapes::GroupId;
+use pws_service::keys::Key;
 use pws_tree::xml_texts::XmlText;
 use std::alloc::Global;
 
@@ -18,10 +17,14 @@ pub trait Envelopes: Drop {
     /// The meaning of each call.
     ghost words: { EnvelopeWords };
 
-    /// The text of a call of the group `me`, with a text of XML characters in its body; the key names the called group.
-    /// None where it would be longer than a body may be.
-    fn call_text(alloc: Global, me: GroupId, key: Key, text: &str) -> Result<Option<Bytes>, Memory>
-        requires { IsTrue (is_xml_text text.now) }
+    /// The text of a call of the group `me`, with a text in its body; the key names the called group. None where it would
+    /// be longer than a body may be.
+    fn call_text(
+        alloc: Global,
+        me: GroupId,
+        key: Key,
+        text: &XmlText,
+    ) -> Result<Option<Bytes>, Memory>
         ensures { IfOk result (λ t. t ≡ words.call_text me key text.now) };
 
     /// The text of the fault that answers a request with this body to the group `me`, or None where the body is an
@@ -34,16 +37,15 @@ pub trait Envelopes: Drop {
     ) -> Result<Option<Bytes>, Memory>
         ensures { IfOk result (λ t. t ≡ words.refusal_of me key body.now) };
 
-    /// The text of the reply of the group `me` to a request with this message, with a text of XML characters in its
-    /// body, or of the fault in its place where it would be longer than a body may be.
+    /// The text of the reply of the group `me` to a request with this message, with a text in its body, or of the fault in
+    /// its place where it would be longer than a body may be.
     fn reply_text(
         alloc: Global,
         me: GroupId,
         key: Key,
         message: &[u8],
-        text: &str,
+        text: &XmlText,
     ) -> Result<Bytes, Memory>
-        requires { IsTrue (is_xml_text text.now) }
         ensures { IfOk result (λ t. t ≡ words.reply_text me key message.now text.now) };
 
     /// The text of the fault by which a halted service answers a request with this body.

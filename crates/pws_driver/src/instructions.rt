@@ -9,22 +9,26 @@ ghost use Rattle.pws_driver.specs.Instructions.{set_by, add_by, sub_by, less_by,
 ghost use Rattle.pws_driver.specs.Values.{number_of, same_number, same_text, same_call, same_request, same_message, same_value};
 ghost use Rattle.pws_driver.specs.Did.{Did};
 
-use crate::acts::Act;
 use crate::cores::{Core, Mode};
 use crate::envelopes::Envelopes;
-use crate::keys::{Key, same_key};
 use crate::programs::Program;
 use crate::texts::{joined, literal_text};
-use crate::values::{Value, digits_or_text};
+use crate::values::{MAX_TEXT, Value, digits_or_text};
 use pws_base::bytes::Bytes;
+use pws_base::limits::MAX_NUMBER;
 use pws_base::lists::ExactCopy;
 use pws_base::memory::Memory;
 use pws_script::instructions::Literal;
 use pws_script::operands::{Name, Register};
+use pws_service::acts::Act;
+use pws_service::keys::{Key, same_key};
 use pws_tree::xml_texts::XmlText;
 use rand_chacha::ChaCha20Rng;
 use rand_core::utils::NextWord;
 use std::alloc::Global;
+
+/// How many values a word of the stream has.
+const WORDS: u64 = 4_294_967_296;
 
 /// What an instruction came to.
 #[derive(Debug, Drop)]
@@ -108,7 +112,7 @@ fn draw(stream: &mut ChaCha20Rng, bound: u64) -> u64
 {
     let low = stream.next_word() as u64;
     let high = stream.next_word() as u64;
-    (low + high * 4294967296) % bound
+    (low + high * WORDS) % bound
 }
 
 impl Core {
@@ -211,7 +215,7 @@ impl Core {
             return Ok(Done::Fault);
         };
         let text = joined(alloc, &first, &second)?;
-        if text.as_str().len() > 16384 {
+        if text.as_str().len() > MAX_TEXT {
             return Ok(Done::Fault);
         }
         self.registers.put(into, Value::Text(text));
@@ -233,7 +237,7 @@ impl Core {
             return Ok(Done::Fault);
         };
         let text = E::field_text(alloc, message.as_slice(), name.as_slice())?;
-        if text.as_str().len() > 16384 {
+        if text.as_str().len() > MAX_TEXT {
             return Ok(Done::Fault);
         }
         self.registers.put(into, Value::Text(text));
@@ -257,7 +261,7 @@ impl Core {
     pub(crate) fn ask_clock(&mut self, into: Register) -> Done
         ensures { Did result self.old self.new (clock_by self.old into) }
     {
-        if self.asks >= 1000000 {
+        if self.asks >= MAX_NUMBER {
             return Done::Fault;
         }
         self.asks += 1;
@@ -269,7 +273,7 @@ impl Core {
     pub(crate) fn ask_seed(&mut self) -> Done
         ensures { Did result self.old self.new (seed_by self.old) }
     {
-        if self.asks >= 1000000 {
+        if self.asks >= MAX_NUMBER {
             return Done::Fault;
         }
         self.asks += 1;

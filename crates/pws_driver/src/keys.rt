@@ -1,47 +1,28 @@
-//! Calls between two groups, by their numbers.
+//! Lists of calls.
 
 ghost use Rattle.std.specs.Prelude.{◌≡◌, ◌==◌, ℕ, [], ◌∷◌, ◌++◌, not, nat_lt, length, Option, IfOk, OnOk};
 ghost use Rattle.std.specs.List.{find, list_any, cons_option};
 ghost use Rattle.std.specs.Option.{option_map};
-ghost use Rattle.pws_driver.specs.Keys.{same_key, has_key, without};
+ghost use Rattle.pws_service.specs.Keys.{same_key};
+ghost use Rattle.pws_driver.specs.Keys.{has_key, without};
 
 use pws_base::lists::ExactCopy;
 use pws_base::memory::Memory;
-use pws_base::shapes::{GroupId, Number};
+use pws_base::shapes::GroupId;
+use pws_service::keys::{Key, same_key};
 use std::alloc::Global;
 use std::marker::Model;
-
-/// A call between two groups: the group at the other end, and the number among the calls of the caller to the called.
-#[derive(Clone, Copy, Debug, PartialEq, Eq)]
-pub struct Key {
-    /// The group that is called, or that calls, 0 to 15.
-    pub group: GroupId,
-    /// The number, 1 to 1,000,000.
-    pub number: Number,
-}
-
-impl ExactCopy for Key {
-    fn copy(&self, _alloc: Global) -> Result<Key, Memory> {
-        Ok(*self)
-    }
-}
-
-/// Whether both are one call.
-pub(crate) fn same_key(a: Key, b: Key) -> bool
-    ensures { result ≡ same_key a b }
-{
-    a.group == b.group && a.number == b.number
-}
 
 /// Calls, in order.
 #[derive(Debug, Drop)]
 pub(crate) struct Keys {
+    /// The calls, the first one first.
     items: Vec<Key>,
 }
 
 impl Model for Keys {
     ghost use Rattle.std.specs.Prelude.{List};
-    ghost use Rattle.pws_driver.specs.declared.keys.Key.{Key};
+    ghost use Rattle.pws_service.specs.declared.keys.Key.{Key};
 
     ghost Value = { List Key };
 

@@ -1,6 +1,6 @@
 //! Laws of runs from scratch.
 
-ghost use Rattle.pws_driver.specs.Laws.{RunsEnd, RunsGoOn, ActsGrow, CallsAreLawful, RepliesAreLawful, AsksAreLawful, EffectsAreInTurn};
+ghost use Rattle.pws_driver.specs.Laws.{RunsEnd, RunsGoOn, ActsGrow, CallsAreLawful, RepliesAreLawful, AsksAreLawful};
 
 /// Nothing more could be done at the end of a run.
 pub fn runs_end()
@@ -30,9 +30,4 @@ pub fn replies_are_lawful()
 /// The asks of a script are lawful on any effects.
 pub fn asks_are_lawful()
     ensures { AsksAreLawful }
-{}
-
-/// The events of a list that take effect do so in turn.
-pub fn effects_are_in_turn()
-    ensures { EffectsAreInTurn }
 {}

@@ -1,24 +1,23 @@
-//! Services: what a driver is, and the runner of scripts.
+//! The runner of scripts.
 //!
-//! - `drivers` is the trait of a service that answers each effect with acts: what it has done so far is a function of
-//!   its program and of the effects that it has taken, the acts on a prefix of the effects are a prefix of the acts on
-//!   the whole, and its acts are lawful. `acts` are what it does.
 //! - `runners` is the driver that runs a script, in a group of a layout (`programs`). It is one suspended script, which
 //!   goes on from where it waits. Its acts are those of one run of the script from its start over the whole list of
 //!   effects, which the definitions under `specs` give.
-//! - `envelopes` is the trait by which a runner reads and makes messages; `keys` name calls and requests.
+//! - `envelopes` is the trait by which a runner reads and makes messages.
 //! - `laws` states what follows from the definition of runs.
 //!
-//! The one contract that the layers above rely on: the laws of `Driver`, which hold of every driver.
+//! The definitions are in `specs/`, to be read in this order: `Envelopes`, `Services`, `Values`, `Keys`, `Moves`,
+//! `Instructions`, `Takings`, `Zeros`, `Runs`, `Laws`. `Did` and `Places` are what private parts say of one another, and
+//! the modules of `Lemmas` are for the proofs alone.
+//!
+//! The one contract: a `Runner` is a `Driver`, whose acts are `acts_of` its script.
 #![tactic(auto)]
 
-pub mod acts;
 mod calls;
 mod cores;
-pub mod drivers;
 pub mod envelopes;
 mod instructions;
-pub mod keys;
+mod keys;
 pub mod laws;
 mod machines;
 mod moves;

@@ -9,7 +9,6 @@ ghost use Rattle.pws_driver.specs.Runs.{run_at, first_of, step, weight, finish, 
 ghost use Rattle.pws_driver.specs.Takings.{wants};
 ghost use Rattle.pws_driver.specs.Did.{TookFirst};
 
-use crate::acts::Act;
 use crate::cores::{Core, Mode};
 use crate::envelopes::Envelopes;
 use crate::programs::Program;
@@ -17,6 +16,7 @@ use crate::untaken::Untaken;
 use pws_base::lists::ExactCopy;
 use pws_base::memory::Memory;
 use pws_event::events::Event;
+use pws_service::acts::Act;
 use std::alloc::Global;
 
 /// A suspended script.
@@ -103,7 +103,7 @@ impl Untaken {
 
 impl Machine {
     /// Does one step, whose acts go to the end of the list; false where nothing is to be done.
-    #[tactic(auto, using(crate::proofs::Stepped::step_none, crate::specs::RunLaws::step_none_over))]
+    #[tactic(auto, using(crate::proofs::Stepped::step_none, crate::specs::Lemmas::RunLaws::step_none_over))]
     fn step<E: Envelopes>(
         &mut self,
         alloc: Global,

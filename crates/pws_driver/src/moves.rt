@@ -8,13 +8,13 @@ ghost use Rattle.pws_driver.specs.Moves.{Moved, halted};
 ghost use Rattle.pws_driver.specs.Instructions.{perform, begin};
 ghost use Rattle.pws_driver.specs.Did.{Did, DidMove, computed};
 
-use crate::acts::Act;
 use crate::cores::{Core, Mode};
 use crate::envelopes::Envelopes;
 use crate::instructions::Done;
 use crate::programs::Program;
 use pws_base::memory::Memory;
 use pws_script::instructions::Instruction;
+use pws_service::acts::Act;
 use std::alloc::Global;
 
 impl Core {

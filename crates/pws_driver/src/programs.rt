@@ -1,6 +1,7 @@
 //! What a runner runs.
 
 ghost use Rattle.std.specs.Prelude.{◌≡◌, ◌≤◌, length, slice_index};
+ghost use Rattle.pws_base.specs.Limits.{max_groups};
 
 use pws_base::lists::ExactCopy;
 use pws_base::memory::Memory;
@@ -17,7 +18,7 @@ pub struct Program {
     pub me: GroupId,
     /// The layout, which has this group.
     pub layout: Layout,
-    ghost few: { length layout ≤ 16 },
+    ghost few: { length layout ≤ max_groups },
 }
 
 impl Program {

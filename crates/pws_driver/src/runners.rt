@@ -1,11 +1,10 @@
 //! The driver that runs a script.
 
 ghost use Rattle.std.specs.Prelude.{◌≡◌, ◌<◌, length, IfOk, [], true, false};
+ghost use Rattle.pws_driver.specs.Services.{service_of};
 ghost use Rattle.pws_driver.specs.Runs.{fresh_core};
 
-use crate::acts::Act;
 use crate::cores::Core;
-use crate::drivers::Driver;
 use crate::envelopes::Envelopes;
 use crate::machines::Machine;
 use crate::programs::Program;
@@ -15,16 +14,23 @@ use pws_base::memory::Memory;
 use pws_base::shapes::{GroupId, Layout};
 use pws_event::events::Event;
 use pws_script::scripts::Script;
+use pws_service::acts::Act;
+use pws_service::drivers::Driver;
 use std::alloc::Global;
 use std::marker::PhantomData;
 
 /// A script that goes on from where it waits. It keeps its state and the effects that it hasn't taken, and no list.
 #[derive(Drop)]
 pub struct Runner<E> {
+    /// What is run, and where.
     program: Program,
+    /// The suspended script, and the effects that it hasn't taken.
     machine: Machine,
+    /// Whether `start` has answered Ok.
     started: bool,
+    /// Whether want of memory has stopped it.
     stopped: bool,
+    /// What reads and makes messages, which keeps nothing.
     envelopes: PhantomData<E>,
     ghost at_start: { started ≡ false → stopped ≡ false → (machine.core ≡ fresh_core) × (machine.untaken ≡ []) },
 }
@@ -42,14 +48,12 @@ impl<E: Envelopes> Runner<E> {
         layout: &Layout,
     ) -> Result<Runner<E>, Memory>
         requires { me < length layout.now }
-        ensures started { IfOk result (λ r. r.started ≡ false) }
-        ensures stopped { IfOk result (λ r. r.stopped ≡ false) }
-        ensures script { IfOk result (λ r. r.program.script ≡ script) }
-        ensures me { IfOk result (λ r. r.program.me ≡ me) }
-        ensures layout { IfOk result (λ r. r.program.layout ≡ layout.now) }
+        ensures started { IfOk result (λ r. ⟦<Runner<E> as Driver>⟧.started r ≡ false) }
+        ensures stopped { IfOk result (λ r. ⟦<Runner<E> as Driver>⟧.stopped r ≡ false) }
+        ensures program { IfOk result (λ r. service_of E.words (⟦<Runner<E> as Driver>⟧.program r) ≡ record { words = E.words; script = script; me = me; layout = layout.now }) }
+        ensures fits { IfOk result (λ r. ⟦<Runner<E> as Driver>⟧.fits (⟦<Runner<E> as Driver>⟧.program r) me layout.now) }
     {
-        // a layout has at most 16 groups
-        let _groups = layout.groups();
+        let _groups = layout.groups(); // shows: a layout has at most 16 groups
         Ok(Runner {
             program: Program {
                 script,
@@ -70,15 +74,15 @@ impl<E: Envelopes> Runner<E> {
 impl<E: Envelopes> Driver for Runner<E> {
     ghost use Rattle.std.specs.Prelude.{◌≡◌, ℕ, true, false, ◌++◌, ◌∷◌, [], List, IfOk, OnOk, OnErr};
     ghost use Rattle.pws_event.specs.declared.events.Event.{Event};
-    ghost use Rattle.pws_driver.specs.declared.programs.Program.{Program as ScriptProgram};
     ghost use Rattle.pws_driver.specs.Services.{service_of};
-    ghost use Rattle.pws_driver.specs.Runs.{acts_of, IsAt};
-    ghost use Rattle.pws_driver.specs.RunLaws.{acts_grow};
-    ghost use Rattle.pws_driver.specs.CallRuns.{calls_lawful_where};
-    ghost use Rattle.pws_driver.specs.ReplyRuns.{replies_lawful};
-    ghost use Rattle.pws_driver.specs.AskRuns.{asks_lawful};
+    ghost use Rattle.pws_driver.specs.Runs.{acts_of};
+    ghost use Rattle.pws_driver.specs.Did.{HasRun, BringsActs};
+    ghost use Rattle.pws_driver.specs.Lemmas.RunLaws.{acts_grow};
+    ghost use Rattle.pws_driver.specs.Lemmas.CallRuns.{calls_lawful_where};
+    ghost use Rattle.pws_driver.specs.Lemmas.ReplyRuns.{replies_lawful};
+    ghost use Rattle.pws_driver.specs.Lemmas.AskRuns.{asks_lawful};
 
-    ghost Program = { ScriptProgram };
+    type Program = Program;
 
     ghost program = { λ r. r.program };
 
@@ -90,11 +94,11 @@ impl<E: Envelopes> Driver for Runner<E> {
 
     ghost stopped = { λ r. r.stopped };
 
-    ghost has_taken = { λ r es. (r.started ≡ true) × IsAt (service_of E.words r.program) r.machine.core r.machine.untaken es };
+    ghost has_taken = { λ r es. (r.started ≡ true) × HasRun E.words r.program r.machine es };
 
     ghost grows = { λ p. acts_grow (service_of E.words p) };
 
-    ghost lawful_calls = { λ p me layout es f t. calls_lawful_where (service_of E.words p) me layout es E.fit f };
+    ghost lawful_calls = { λ p me layout es f t. calls_lawful_where (service_of E.words p) me layout es p.few E.fit f };
 
     ghost lawful_replies = { λ p me layout es f t. replies_lawful (service_of E.words p) me layout es E.fit t };
 
@@ -104,30 +108,31 @@ impl<E: Envelopes> Driver for Runner<E> {
         if self.stopped {
             return Err(Memory);
         }
-        self.stopped = true;
+        self.stopped = true; // until it is started
         let acts = self.machine.go_on::<E>(alloc, &self.program)?;
         self.started = true;
-        self.stopped = false;
+        self.stopped = false; // started
         Ok(acts)
     }
 
     fn take(&mut self, alloc: Global, event: &Event) -> Result<Vec<Act>, Memory>
         requires { self.old.started ≡ true }
         ensures program { self.new.program ≡ self.old.program }
-        ensures acts { (es : List Event) → IsAt (service_of E.words self.old.program) self.old.machine.core self.old.machine.untaken es → IfOk result (λ v. acts_of (service_of E.words self.old.program) (es ++ event.now ∷ []) ≡ acts_of (service_of E.words self.old.program) es ++ v.items) }
-        ensures taken { (es : List Event) → IsAt (service_of E.words self.old.program) self.old.machine.core self.old.machine.untaken es → OnOk result (IsAt (service_of E.words self.new.program) self.new.machine.core self.new.machine.untaken (es ++ event.now ∷ [])) }
+        ensures acts { (es : List Event) → HasRun E.words self.old.program self.old.machine es → IfOk result (λ v. BringsActs E.words self.old.program es event.now v.items) }
+        ensures taken { (es : List Event) → HasRun E.words self.old.program self.old.machine es → OnOk result (HasRun E.words self.new.program self.new.machine (es ++ event.now ∷ [])) }
         ensures started { self.new.started ≡ true }
+        ensures going { OnOk result (self.new.stopped ≡ false) }
         ensures stopped { OnErr result (self.new.stopped ≡ true) }
         ensures stays { self.old.stopped ≡ true → OnOk result ⊥ }
     {
         if self.stopped {
             return Err(Memory);
         }
-        self.stopped = true;
+        self.stopped = true; // until the effect is taken
         let event = event.copy(alloc)?;
         self.machine.untaken.push(event)?;
         let acts = self.machine.go_on::<E>(alloc, &self.program)?;
-        self.stopped = false;
+        self.stopped = false; // taken
         Ok(acts)
     }
 

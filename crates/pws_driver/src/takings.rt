@@ -1,58 +1,59 @@
 //! Which effect a script takes next, and what it does with it.
 
 ghost use Rattle.std.specs.Prelude.{◌≡◌, ◌++◌, IfOk, OnOk};
-ghost use Rattle.std.specs.List.{flat_map};
 ghost use Rattle.pws_driver.specs.declared.cores.Mode.TheVariants as mode;
 ghost use Rattle.pws_driver.specs.Services.{service_of};
 ghost use Rattle.pws_driver.specs.Moves.{quiet};
-ghost use Rattle.pws_event.specs.Times.{agreed_seed};
-ghost use Rattle.pws_driver.specs.Takings.{among_answers, wanted_by, is_clock, is_random, wants, is_ready, hand, request_taken, take_request, answer_of, take_answer, take_by, take_clock, take_seed, when_halted, takes};
+ghost use Rattle.pws_service.specs.Keys.{request_key, reply_key, abort_key};
+ghost use Rattle.pws_service.specs.Lawful.{is_clock, is_random};
+ghost use Rattle.pws_driver.specs.Takings.{among_answers, wanted_by, wants, is_ready, hand, request_taken, take_request, answer_of, take_answer, take_by, take_clock, take_seed, when_halted, takes};
 ghost use Rattle.pws_driver.specs.Did.{DidMove};
 
-use crate::acts::Act;
-use crate::cores::{Answers, Core, Mode, Wait};
+use crate::cores::{Answers, BUDGET, Core, Mode, Wait};
 use crate::envelopes::Envelopes;
-use crate::keys::Key;
 use crate::programs::Program;
 use crate::values::Value;
 use pws_base::bytes::Bytes;
 use pws_base::memory::Memory;
+use pws_event::answers::{Abort, Reply};
 use pws_event::events::Event;
-use pws_event::readings::Share;
 use pws_event::requests::Request;
-use pws_event::times::agreed_time;
+use pws_event::times::{agreed_seed, agreed_time};
 use pws_script::operands::Register;
+use pws_service::acts::Act;
+use pws_service::keys::Key;
 use rand_chacha::ChaCha20Rng;
 use rand_core::SeedableRng;
-use sha2::{Digest as _, Sha256};
 use std::alloc::Global;
 use std::mem::replace;
 
-/// Shares, one after the other.
-fn joined(alloc: Global, shares: &[Share]) -> Result<Vec<u8>, Memory>
-    ensures { IfOk result (λ v. v.items ≡ flat_map (λ s. s.bytes) shares.now) }
-{
-    let mut text = Vec::new(alloc);
-    for share in shares.iter() {
-        text.extend_from_slice(share.bytes.as_slice())?;
-    }
-    Ok(text)
-}
-
-/// The seed on which replicas agree by their shares.
-fn agreed_seed(alloc: Global, shares: &[Share]) -> Result<[u8; 32], Memory>
-    ensures { IfOk result (λ s. s ≡ agreed_seed shares.now) }
-{
-    let text = joined(alloc, shares)?;
-    Ok(Sha256::digest(text.as_slice()))
-}
-
+/// The call that a request is.
 fn request_key(request: &Request) -> Key
-    ensures { result ≡ record { group = request.now.caller; number = request.now.number } }
+    ensures { result ≡ request_key request.now }
 {
     Key {
         group: request.caller(),
         number: request.number(),
+    }
+}
+
+/// The call that a reply answers.
+fn reply_key(reply: &Reply) -> Key
+    ensures { result ≡ reply_key reply.now }
+{
+    Key {
+        group: reply.called(),
+        number: reply.number(),
+    }
+}
+
+/// The call that is aborted.
+fn abort_key(abort: &Abort) -> Key
+    ensures { result ≡ abort_key abort.now }
+{
+    Key {
+        group: abort.called(),
+        number: abort.number(),
     }
 }
 
@@ -106,14 +107,8 @@ impl Wait {
     {
         match event {
             Event::Request(_) => self.requests,
-            Event::Reply(reply) => self.answers.have(Key {
-                group: reply.called(),
-                number: reply.number(),
-            }),
-            Event::Abort(abort) => self.answers.have(Key {
-                group: abort.called(),
-                number: abort.number(),
-            }),
+            Event::Reply(reply) => self.answers.have(reply_key(reply)),
+            Event::Abort(abort) => self.answers.have(abort_key(abort)),
             Event::Null | Event::Clock(_) | Event::Random(_) => false,
         }
     }
@@ -182,7 +177,7 @@ impl Core {
         requires { self.old.mode ≡ mode.Ready }
         ensures { OnOk result (DidMove (take_request (service_of E.words program.now) wait (record self.old { mode = mode.Waiting wait }) request.now) self.new acts.old.items acts.new.items) }
     {
-        self.left = 10000;
+        self.left = BUDGET;
         let key = request_key(request);
         let body = request.body();
         match E::refusal_of(alloc, program.me, key, body)? {
@@ -195,7 +190,7 @@ impl Core {
                 })?;
             }
             None => {
-                self.asked.push(key)?;
+                self.open_requests.push(key)?;
                 let message = Bytes::from_slice(alloc, body)?;
                 let value = Value::Request {
                     key,
@@ -212,7 +207,7 @@ impl Core {
         requires { self.old.mode ≡ mode.Ready }
         ensures { quiet self.new ≡ take_answer wait (record self.old { mode = mode.Waiting wait }) key message }
     {
-        self.left = 10000;
+        self.left = BUDGET;
         self.pending.remove(key);
         self.hand(&wait, Value::Call(key), message);
     }
@@ -246,20 +241,12 @@ impl Core {
             }
             Event::Reply(reply) => {
                 let message = answer_of::<E>(alloc, program, reply.body())?;
-                let key = Key {
-                    group: reply.called(),
-                    number: reply.number(),
-                };
-                self.take_answer(wait, key, message);
+                self.take_answer(wait, reply_key(reply), message);
                 Ok(())
             }
             Event::Abort(abort) => {
                 let message = E::timed_out(alloc)?;
-                let key = Key {
-                    group: abort.called(),
-                    number: abort.number(),
-                };
-                self.take_answer(wait, key, message);
+                self.take_answer(wait, abort_key(abort), message);
                 Ok(())
             }
         }
@@ -272,7 +259,7 @@ impl Core {
     {
         match event {
             Event::Clock(clock) => {
-                self.left = 10000;
+                self.left = BUDGET;
                 self.clock = self.clock.max(agreed_time(f, clock.readings()));
                 self.registers.put(into, Value::Number(self.clock));
             }
@@ -281,19 +268,18 @@ impl Core {
     }
 
     /// Takes the agreed seed.
-    fn take_seed(&mut self, alloc: Global, event: &Event) -> Result<(), Memory>
+    fn take_seed(&mut self, event: &Event)
         requires { self.old.mode ≡ mode.Ready }
-        ensures { OnOk result (quiet self.new ≡ take_seed (record self.old { mode = mode.AskingSeed }) event.now) }
+        ensures { quiet self.new ≡ take_seed (record self.old { mode = mode.AskingSeed }) event.now }
     {
         match event {
             Event::Random(random) => {
-                let seed = agreed_seed(alloc, random.shares())?;
-                self.left = 10000;
+                let seed = agreed_seed(random.shares());
+                self.left = BUDGET;
                 self.stream = Some(ChaCha20Rng::from_seed(seed));
             }
             _ => self.mode = Mode::AskingSeed,
         }
-        Ok(())
     }
 
     /// Takes the event; its acts go to the end of the list.
@@ -318,7 +304,10 @@ impl Core {
                 self.take_clock(program.faults(), into, event);
                 Ok(())
             }
-            Mode::AskingSeed => self.take_seed(alloc, event),
+            Mode::AskingSeed => {
+                self.take_seed(event);
+                Ok(())
+            }
             Mode::Halted => {
                 self.mode = Mode::Halted;
                 refuse::<E>(alloc, program, event, acts)

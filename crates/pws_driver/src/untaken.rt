@@ -59,7 +59,9 @@ fn put_copies(alloc: Global, into: &mut Vec<Event>, events: &[Event]) -> Result<
 /// Effects that a script hasn't taken, in order.
 #[derive(Drop)]
 pub(crate) struct Untaken {
+    /// The effects.
     items: VecDeque<Event>,
+    /// The places of those that are no requests.
     others: Vec<usize>,
 }
 

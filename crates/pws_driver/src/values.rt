@@ -4,22 +4,25 @@ ghost use Rattle.std.specs.Prelude.{◌≡◌, ◌<◌, ◌∷◌, [], length, s
 ghost use Rattle.std.specs.Option.{option_map};
 ghost use Rattle.pws_driver.specs.Values.{number_of, text_of, digits_or_text_of, call_of, request_of, message_of};
 
-use crate::keys::Key;
 use crate::texts::digits;
 use pws_base::bytes::Bytes;
 use pws_base::lists::ExactCopy;
 use pws_base::memory::Memory;
 use pws_script::operands::Register;
+use pws_service::keys::Key;
 use pws_tree::xml_texts::XmlText;
 use std::alloc::Global;
 use std::marker::Model;
+
+/// The longest text in a register, in bytes.
+pub(crate) const MAX_TEXT: usize = 16_384;
 
 /// What a register holds.
 #[derive(Clone, Debug, Drop)]
 pub(crate) enum Value {
     /// A number.
     Number(u64),
-    /// A text of XML characters, of at most 16,384 bytes.
+    /// A text of XML characters, of at most `MAX_TEXT` bytes.
     Text(XmlText),
     /// A call to another group.
     Call(Key),
@@ -38,6 +41,7 @@ impl ExactCopy for Value {
 /// The 32 registers.
 #[derive(Drop)]
 pub(crate) struct Registers {
+    /// What each of them holds.
     values: Vec<Value>,
 }
 

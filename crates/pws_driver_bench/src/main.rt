@@ -10,12 +10,12 @@ ghost use Rattle.std.specs.Prelude.{◌≡◌, ◌≤◌, true};
 
 use pws_base::bytes::Bytes;
 use pws_base::shapes::{GroupShape, Layout};
-use pws_driver::drivers::Driver;
 use pws_driver::runners::Runner;
-use pws_driver_cases::plain::Plain;
+use pws_driver_plain::plain::Plain;
 use pws_event::events::Event;
 use pws_event::requests::Request;
 use pws_script::scripts::Script;
+use pws_service::drivers::Driver;
 use std::alloc::Global;
 use std::env;
 

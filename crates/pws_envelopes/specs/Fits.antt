@@ -1,4 +1,4 @@
--- What is made here fits into a body, by the laws of the envelopes that drivers make.
+-- What is made here fits into a body, by the laws of the envelopes that drivers make. It is here for the proofs alone.
 use Rattle.std.specs.Prelude.{◌≡◌, ℕ, ◌≤◌, List, length, Option, Some, None}
 use Rattle.std.specs.Option.{option_map}
 use Rattle.std.proofs.Common.{subst}

@@ -53,8 +53,7 @@ fn first_named<'a>(nodes: &'a [Node], name: &[u8]) -> Option<&'a Element>
 fn put_texts(text: &mut XmlText, element: &Element) -> Result<(), Memory>
     ensures { OnOk result (text.new ≡ text.old ++ texts_within element.now.children) }
 {
-    // an element is lawful
-    let _depth = element.depth();
+    let _depth = element.depth(); // shows: the element is lawful
     for child in element.children() {
         put_child(text, child)?;
     }

@@ -10,8 +10,8 @@ use pws_base::bytes::Bytes;
 use pws_base::memory::Memory;
 use pws_base::shapes::GroupId;
 use pws_driver::envelopes::Envelopes;
-use pws_driver::keys::Key;
 use pws_mark::laws::reading_gives_the_tree;
+use pws_service::keys::Key;
 use pws_soap::envelopes::Envelope;
 use pws_soap::errors::SoapError;
 use pws_soap::reading::read_envelope;
@@ -79,10 +79,9 @@ impl Envelopes for SoapEnvelopes {
         alloc: Global,
         me: GroupId,
         key: Key,
-        text: &str,
+        text: &XmlText,
     ) -> Result<Option<Bytes>, Memory> {
-        let text = XmlText::from_str(alloc, text)?;
-        call_text(alloc, me, key.group, key.number, &text)
+        call_text(alloc, me, key.group, key.number, text)
     }
 
     fn refusal_of(
@@ -105,14 +104,13 @@ impl Envelopes for SoapEnvelopes {
         me: GroupId,
         key: Key,
         message: &[u8],
-        text: &str,
+        text: &XmlText,
     ) -> Result<Bytes, Memory> {
-        let text = XmlText::from_str(alloc, text)?;
         match request_at(alloc, message)? {
             Request::Readable(addressing) => {
-                reply_text(alloc, me, key.group, key.number, Some(&addressing), &text)
+                reply_text(alloc, me, key.group, key.number, Some(&addressing), text)
             }
-            Request::Refused(_) => reply_text(alloc, me, key.group, key.number, None, &text),
+            Request::Refused(_) => reply_text(alloc, me, key.group, key.number, None, text),
         }
     }
 

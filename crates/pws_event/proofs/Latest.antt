@@ -7,7 +7,8 @@ use Rattle.std.proofs.lemmas.Bool.Decides.{nat_tests}
 use Rattle.pws_event.specs.Requests.{RequestFields}
 use Rattle.pws_event.specs.declared.events.Event.{Event}
 use Rattle.pws_event.specs.declared.events.Event.TheVariants as event
-use Rattle.pws_event.specs.Effects.{field_after, latest, is_next, is_other}
+use Rattle.pws_base.specs.Replicas.{is_other}
+use Rattle.pws_event.specs.Effects.{field_after, latest, is_next}
 use Rattle.pws_event.specs.Counters.{counter_of, CountsRequests}
 
 pub latest_after : (field : RequestFields → ℕ) (caller first : ℕ) (fx : List Event) (r : RequestFields) → latest field caller first (fx ++ event.Request r ∷ []) ≡ cond (nat_eq r.caller caller) (field r) (latest field caller first fx)

@@ -13,3 +13,8 @@ pub mod Answered
 pub mod ReadBack
 pub mod WriteBack
 pub mod Ranked
+pub mod Determined
+pub mod Follow
+pub mod Between
+pub mod Lengths
+pub mod Same

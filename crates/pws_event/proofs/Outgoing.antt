@@ -3,7 +3,8 @@ use Rattle.std.proofs.Common.{◌≡◌, ℕ, zero, suc, ◌+◌, ◌-◌, ◌<�
 use Rattle.std.specs.List.{range_with_len}
 use Rattle.std.specs.Option.{unwrap_or}
 use Rattle.std.proofs.lemmas.Bool.Decides.{nat_tests}
-use Rattle.pws_event.specs.Effects.{is_other, waits, low_out}
+use Rattle.pws_base.specs.Replicas.{is_other}
+use Rattle.pws_event.specs.Effects.{waits, low_out}
 use Rattle.pws_event.specs.Histories.{Past, with_call}
 use Rattle.pws_event.specs.Counters.{Counters, IsCounters, HasTaken, counter_of, is_waiting, least_waiting, after_call}
 use Rattle.pws_event.proofs.Waiting.{called_more}

@@ -1,13 +1,13 @@
 -- What the counters keep, whatever is taken or noted.
-use Rattle.std.proofs.Common.{◌≡◌, ℕ, ◌+◌, zero, suc, ◌<◌, ◌≤◌, Bool, true, false, not, ◌&&◌, List, length, get_or, replicate, refl, sym, ◌∙◌, ap, arith, nat_eq, nat_lt, cond, None}
+use Rattle.std.proofs.Common.{◌≡◌, ℕ, ◌+◌, zero, suc, ◌<◌, ◌≤◌, Bool, true, false, not, ◌&&◌, ◌||◌, ◌%◌, List, length, get_or, replicate, refl, sym, ◌∙◌, ap, arith, nat_eq, nat_lt, cond, None}
 use Rattle.std.proofs.Math.ListN.{set}
 use Rattle.std.proofs.lemmas.List.{length-set, get_or-replicate}
 use Rattle.std.proofs.lemmas.Bool.Decides.{nat_tests}
-use Rattle.pws_event.specs.Effects.{is_other}
+use Rattle.pws_base.specs.Replicas.{is_other}
 use Rattle.pws_event.specs.Histories.{nothing}
-use Rattle.pws_event.specs.Counters.{Counters, IsCounters, HasTaken, counter_of, slot_of, is_waiting, CanCall}
+use Rattle.pws_event.specs.Counters.{Counters, IsCounters, HasTaken, counter_of, slot_of, is_own, is_waiting, CanCall}
 use Rattle.pws_event.proofs.Latest.{counter_written, written}
-use Rattle.pws_event.proofs.Waiting.{zero_slot, after_call as slots_after_call}
+use Rattle.pws_event.proofs.Waiting.{zero_slot, mod_small, after_answer as slots_after_answer, after_call as slots_after_call}
 use Rattle.pws_event.proofs.Outgoing.{least_below}
 
 all_same : (n x k : ℕ) → k < n → get_or (replicate n x) k 0 ≡ x
@@ -48,7 +48,11 @@ fresh_counters me layout own few = record {
   own = own;
   small = λ k. omega (arith, zeros 16 k);
   few = λ k. omega (arith, zeros 16 k);
+  least = λ k. omega (arith, fresh_counter 1 k);
+  low = λ k. omega (arith, fresh_counter 1 k);
+  near = λ k. omega (arith, fresh_counter 0 k, fresh_counter 1 k);
   window = λ g n w. absurd (never_fresh g n true w);
+  clean = λ k. ap (is_own k) (zeros 256 k);
   answered = omega arith;
   none = λ g o. (fresh_counter 0 g, fresh_counter 1 g, fresh_counter 0 g);
 }
@@ -88,6 +92,53 @@ few_by : (numbers : List ℕ) (called g number : ℕ) → called < length number
 few_by numbers called g number k small l true e = let at = written numbers called g number k in let own = ap (λ b. cond b number (get_or numbers g 0)) e in omega (arith, at, own, small)
 few_by numbers called g number k small l false e = let at = written numbers called g number k in let own = ap (λ b. cond b number (get_or numbers g 0)) e in omega (arith, at, own, l)
 
+-- ---- each slot has its own number
+
+own_rest : (called number k : ℕ) → k ≡ slot_of called number → number % 16 ≡ k % 16
+own_rest called number k e = omega (arith, e, mod_small number)
+
+own_test : (z : Bool) (a b : ℕ) → a ≡ b → (z || nat_eq a b) ≡ true
+own_test true a b e = refl
+own_test false a b e = grind (arith, nat_tests, e)
+
+own_number : (called number k : ℕ) → k ≡ slot_of called number → is_own k number ≡ true
+own_number called number k e = own_test (nat_eq number 0) (number % 16) (k % 16) (own_rest called number k e)
+
+eq_at : (i k : ℕ) → nat_eq i k ≡ true → k ≡ i
+eq_at i k e = grind (arith, nat_tests)
+
+-- so it is after a write of nothing, or of the slot's own number
+clean_by : (slots : List ℕ) (i k y : ℕ) → i < length slots → (k ≡ i → is_own k y ≡ true) → is_own k (get_or slots k 0) ≡ true → (b : Bool) → nat_eq i k ≡ b → is_own k (get_or (set slots i y) k 0) ≡ true
+clean_by slots i k y l new old true e = ap (is_own k) (written slots i k y l ∙ ap (λ b. cond b y (get_or slots k 0)) e) ∙ new (eq_at i k e)
+clean_by slots i k y l new old false e = ap (is_own k) (written slots i k y l ∙ ap (λ b. cond b y (get_or slots k 0)) e) ∙ old
+
+-- one more answer
+still : (b w : Bool) → cond b false w ≡ true → w ≡ true
+still true w h = absurd (let i : ◌≡◌ {A = Bool} false true = h in cc)
+still false w h = h
+
+waiting_small : (slots : List ℕ) (called number : ℕ) → is_waiting slots called number ≡ true → called < 16
+waiting_small slots called number w = grind (arith, nat_tests, w)
+
+pub answer_kept : (c : Counters) (called number : ℕ) → IsCounters c → is_waiting c.waiting called number ≡ true → IsCounters (record c { waiting = set c.waiting (slot_of called number) 0 })
+answer_kept c called number s w =
+    let k : called < 16 = waiting_small c.waiting called number w in
+    record {
+      callers = s.callers;
+      calls = (s.calls.0, length-set c.waiting (slot_of called number) 0 ∙ s.calls.1);
+      groups = s.groups;
+      own = s.own;
+      small = s.small;
+      few = s.few;
+      least = s.least;
+      low = s.low;
+      near = s.near;
+      window = λ g n v. s.window g n (still (nat_eq called g && nat_eq number n) (is_waiting c.waiting g n) (sym (slots_after_answer c.waiting called number g n s.calls.1 k w) ∙ v));
+      clean = λ i. clean_by c.waiting (slot_of called number) i 0 (omega (arith, mod_small number, k, s.calls.1)) (λ e. refl) (s.clean i) (nat_eq (slot_of called number) i) refl;
+      answered = s.answered;
+      none = s.none;
+    }
+
 -- one more call
 pub call_kept : (c : Counters) (called number : ℕ) → IsCounters c → CanCall c called number → IsCounters (record c { called = set c.called called number; waiting = set c.waiting (slot_of called number) number })
 call_kept c called number s can =
@@ -102,6 +153,10 @@ call_kept c called number s can =
       groups = s.groups;
       own = s.own;
       small = s.small;
+      least = s.least;
+      low = s.low;
+      near = s.near;
+      clean = λ i. clean_by c.waiting (slot_of called number) i number (omega (arith, mod_small number, k, s.calls.1)) (own_number called number i) (s.clean i) (nat_eq (slot_of called number) i) refl;
       few = λ g. few_by c.called called g number (omega (arith, k, s.calls.0)) small (s.few g) (nat_eq called g) refl;
       window = λ g n w. call_window c.waiting c.called called number g n s.calls.0 s.calls.1 k next (λ n w. (omega (arith, (s.window called n w).0, next), omega (arith, least_below c called n s w, room))) s.window w;
       answered = s.answered;

@@ -15,10 +15,10 @@ below rs t = count_by (λ r. nat_lt r.ms t) rs
 abbrev up_to : List Reading → ℕ → ℕ
 up_to rs t = count_by (λ r. nat_le r.ms t) rs
 
-one : Bool → ℕ
+unfoldable pub one : Bool → ℕ
 one b = cond b 1 0
 
-count-cons : (p : Reading → Bool) (r : Reading) (rs : List Reading) → count_by p (r ∷ rs) ≡ one (p r) + count_by p rs
+pub count-cons : (p : Reading → Bool) (r : Reading) (rs : List Reading) → count_by p (r ∷ rs) ≡ one (p r) + count_by p rs
 unfolding one
 count-cons p r rs = sum_by-cons (λ x. cond (p x) 1 0) r rs
 
@@ -28,20 +28,20 @@ one_le true true h = omega arith
 one_le true false h = absurd (let e = h refl in cc)
 one_le false b h = omega arith
 
-one_at : (a : Bool) → a ≡ true → one a ≡ 1
+pub one_at : (a : Bool) → a ≡ true → one a ≡ 1
 unfolding one
 one_at true h = refl
 one_at false h = absurd (cc)
 
-none_at : (a : Bool) → a ≡ false → one a ≡ 0
+pub none_at : (a : Bool) → a ≡ false → one a ≡ 0
 unfolding one
 none_at false h = refl
 none_at true h = absurd (cc)
 
-both_low : (a b k : ℕ) → (nat_le a k && nat_lt k b) ≡ true → a ≤ k
+pub both_low : (a b k : ℕ) → (nat_le a k && nat_lt k b) ≡ true → a ≤ k
 both_low a b k h = grind (arith, nat_tests)
 
-both_high : (a b k : ℕ) → (nat_le a k && nat_lt k b) ≡ true → k < b
+pub both_high : (a b k : ℕ) → (nat_le a k && nat_lt k b) ≡ true → k < b
 both_high a b k h = grind (arith, nat_tests)
 
 both_from : (a b k : ℕ) → a ≤ k → k < b → (nat_le a k && nat_lt k b) ≡ true

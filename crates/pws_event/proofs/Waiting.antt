@@ -14,7 +14,7 @@ use Rattle.pws_event.specs.Histories.{Past, with_call}
 use Rattle.pws_event.specs.Counters.{counter_of, slot_of, is_waiting, CountsCalls}
 use Rattle.pws_event.proofs.Latest.{counter_written}
 
-mod_small : (n : ℕ) → n % 16 < 16
+pub mod_small : (n : ℕ) → n % 16 < 16
 mod_small n = omega arith
 
 -- two calls of different slots, of one slot
@@ -95,7 +95,7 @@ after_answer_by slots called number g n false size k w e (inl same) =
     let here : slot_of called n ≡ slot_of called number = ap (λ g. slot_of g n) (sym group) ∙ same in
     slot_same slots called number 0 g n size k same ∙ (zero_slot g n ∙ sym (ap (λ g. is_waiting slots g n) group ∙ displaced slots called number n w here other))
 
-after_answer : (slots : List ℕ) (called number g n : ℕ) → length slots ≡ 256 → called < 16 → is_waiting slots called number ≡ true → is_waiting (set slots (slot_of called number) 0) g n ≡ cond (nat_eq called g && nat_eq number n) false (is_waiting slots g n)
+pub after_answer : (slots : List ℕ) (called number g n : ℕ) → length slots ≡ 256 → called < 16 → is_waiting slots called number ≡ true → is_waiting (set slots (slot_of called number) 0) g n ≡ cond (nat_eq called g && nat_eq number n) false (is_waiting slots g n)
 after_answer slots called number g n size k w = after_answer_by slots called number g n (nat_eq called g && nat_eq number n) size k w refl (cases_eq (slot_of g n) (slot_of called number))
 
 own_slot : (called number : ℕ) → called < 16 → 1 ≤ number → (nat_lt called 16 && not (nat_eq number 0) && nat_eq number number) ≡ true

@@ -1,7 +1,10 @@
--- The counters that tell which events take effect; this project's own.
-use Rattle.std.specs.Prelude.{◌≡◌, ℕ, ◌+◌, ◌-◌, ◌*◌, ◌%◌, ◌<◌, ◌≤◌, ◌==◌, ◌&&◌, not, max, Bool, true, false, IsTrue, nat_lt, if◌then◌else◌, List, length, slice_get, slice_index, slice_set, find, Option, Some, None}
+-- The counters that tell which events take effect: what has to be kept of a past. Contracts name a past beside them, by
+-- `HasTaken`, and say each answer of it; so but for `CanCall` this serves proofs. This project's own.
+use Rattle.std.specs.Prelude.{◌≡◌, ℕ, ◌+◌, ◌-◌, ◌*◌, ◌%◌, ◌<◌, ◌≤◌, ◌==◌, ◌&&◌, ◌||◌, not, max, Bool, true, false, IsTrue, nat_lt, if◌then◌else◌, List, length, slice_get, slice_index, slice_set, find, Option, Some, None}
 use Rattle.std.specs.List.{range_with_len}
 use Rattle.std.specs.Option.{option_map_or, unwrap_or}
+use Rattle.pws_base.specs.Limits.{max_number, max_groups, call_window}
+use Rattle.pws_base.specs.Replicas.{is_other}
 use Rattle.pws_event.specs.Requests.{RequestFields}
 use Rattle.pws_event.specs.Readings.{ClockFields, RandomFields}
 use Rattle.pws_event.specs.Times.{agreed_time}
@@ -9,7 +12,7 @@ use Rattle.pws_event.specs.declared.readings.Sort.{Sort}
 use Rattle.pws_event.specs.declared.readings.Sort.TheVariants as sort
 use Rattle.pws_event.specs.declared.events.Event.{Event}
 use Rattle.pws_event.specs.declared.events.Event.TheVariants as event
-use Rattle.pws_event.specs.Effects.{is_next, is_other, is_sort, last_of, low_of, is_answered, waits, last_call, answered_asks, clock_of}
+use Rattle.pws_event.specs.Effects.{is_next, is_sort, last_of, low_of, is_answered, waits, last_call, answered_asks, clock_of}
 use Rattle.pws_event.specs.Histories.{Past}
 
 -- the group and its layout; by caller the number and the low number of the last request; by called group the number
@@ -44,17 +47,26 @@ least_waiting c called =
     let last = counter_of c.called called 0 in
     unwrap_or (find (is_waiting c.waiting called) (range_with_len (last - 15) (last + 1 - (last - 15)))) (last + 1)
 
--- sixteen counters of each sort, the numbers in range; calls that wait are among the sixteen up to the last; nothing
--- is counted for the own group and for groups that the layout lacks
+-- whether a number may stand in a slot: none does, or it is the number of a call whose slot that is
+abbrev pub is_own : ℕ → ℕ → Bool
+is_own slot number = number == 0 || number % 16 == slot % 16
+
+-- sixteen counters of each sort, the numbers in range; the last number of a caller is among the sixteen from its low
+-- number on, which is 1 before the first request; calls that wait are among the sixteen up to the last, each in its own
+-- slot; nothing is counted for the own group and for groups that the layout lacks
 pub record IsCounters (c : Counters) : Type 0 where
   pub callers : (length c.last ≡ 16) × (length c.low ≡ 16)
   pub calls : (length c.called ≡ 16) × (length c.waiting ≡ 256)
-  pub groups : length c.layout ≤ 16
+  pub groups : length c.layout ≤ max_groups
   pub own : c.me < length c.layout
-  pub small : (caller : ℕ) → slice_index c.last caller ≤ 1000000
-  pub few : (called : ℕ) → slice_index c.called called ≤ 1000000
-  pub window : (called number : ℕ) → is_waiting c.waiting called number ≡ true → (number ≤ counter_of c.called called 0) × (counter_of c.called called 0 < number + 16)
-  pub answered : c.answered ≤ 1000000
+  pub small : (caller : ℕ) → slice_index c.last caller ≤ max_number
+  pub few : (called : ℕ) → slice_index c.called called ≤ max_number
+  pub least : (caller : ℕ) → 1 ≤ counter_of c.low caller 1
+  pub low : (caller : ℕ) → counter_of c.low caller 1 ≤ max 1 (counter_of c.last caller 0)
+  pub near : (caller : ℕ) → counter_of c.last caller 0 < counter_of c.low caller 1 + call_window
+  pub window : (called number : ℕ) → is_waiting c.waiting called number ≡ true → (number ≤ counter_of c.called called 0) × (counter_of c.called called 0 < number + call_window)
+  pub clean : (slot : ℕ) → is_own slot (slice_index c.waiting slot) ≡ true
+  pub answered : c.answered ≤ max_number
   pub none : (group : ℕ) → is_other c.me c.layout group ≡ false → (counter_of c.last group 0 ≡ 0) × (counter_of c.low group 1 ≡ 1) × (counter_of c.called group 0 ≡ 0)
 
 -- the counters of requests are those of these effects
@@ -146,8 +158,8 @@ would_effect c (event.Random r) = would_answer c r.ask sort.Random
 pub record CanCall (c : Counters) (called number : ℕ) : Type 0 where
   pub other : IsTrue (is_other c.me c.layout called)
   pub next : number ≡ counter_of c.called called 0 + 1
-  pub room : number < least_waiting c called + 16
-  pub small : number ≤ 1000000
+  pub room : number < least_waiting c called + call_window
+  pub small : number ≤ max_number
 
 -- the counters after a call
 abbrev pub after_call : Counters → ℕ → ℕ → Counters

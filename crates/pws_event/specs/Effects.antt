@@ -1,7 +1,9 @@
 -- Which events of a list take effect in a group, given what its service called and asked; this project's own rule.
-use Rattle.std.specs.Prelude.{ℕ, ◌+◌, ◌==◌, ◌&&◌, not, max, Bool, true, false, nat_lt, nat_le, if◌then◌else◌, List, [], ◌∷◌, ◌++◌, length, slice_get, count_by, find, Option}
+use Rattle.std.specs.Prelude.{ℕ, ◌+◌, ◌==◌, ◌&&◌, not, max, Bool, true, false, nat_lt, nat_le, if◌then◌else◌, List, [], ◌∷◌, ◌++◌, slice_get, count_by, find, Option}
 use Rattle.std.specs.List.{fold, list_any, range_with_len}
 use Rattle.std.specs.Option.{option_map, option_map_or, unwrap_or}
+use Rattle.pws_base.specs.Limits.{call_window}
+use Rattle.pws_base.specs.Replicas.{is_other}
 use Rattle.pws_event.specs.Requests.{RequestFields}
 use Rattle.pws_event.specs.Times.{agreed_time}
 use Rattle.pws_event.specs.declared.readings.Sort.{Sort}
@@ -40,10 +42,6 @@ last_of caller before = latest (λ r. r.number) caller 0 before
 abbrev pub low_of : ℕ → List Event → ℕ
 low_of caller before = latest (λ r. r.low) caller 1 before
 
--- another group of the layout
-abbrev pub is_other : ℕ → List ℕ → ℕ → Bool
-is_other me layout group = nat_lt group (length layout) && not (group == me)
-
 -- whether a request takes effect after a caller's last number and low number: its caller is another group of the
 -- layout, its number is the next, its low number doesn't fall and isn't above its number, and its number is among
 -- the sixteen from the low number on
@@ -53,7 +51,7 @@ is_next me layout last low r =
     && r.number == last + 1
     && nat_le low r.low
     && nat_le r.low r.number
-    && nat_lt r.number (r.low + 16)
+    && nat_lt r.number (r.low + call_window)
 
 -- whether it is the call of this number to this group
 abbrev pub is_call : ℕ → ℕ → Call → Bool

@@ -1,6 +1,8 @@
 pub mod Answers
 pub mod Counters
+pub mod Determined
 pub mod Effects
+pub mod Equal
 pub mod EventFields
 pub mod Events
 pub mod Histories
@@ -11,3 +13,4 @@ pub mod Requests
 pub mod Slots
 pub mod TextLaws
 pub mod Times
+pub mod Words

@@ -1,6 +1,6 @@
 //! The answers to a call: a reply, or an abort.
 
-ghost use Rattle.std.specs.Prelude.{◌≡◌};
+ghost use Rattle.std.specs.Prelude.{◌≡◌, ◌↔◌, IsTrue};
 ghost use Rattle.pws_event.specs.Answers.{IsReply, IsAbort};
 
 use pws_base::bytes::Bytes;
@@ -59,6 +59,15 @@ impl Reply {
         self.number
     }
 
+    /// The body, which isn't copied, at most 32,768 bytes.
+    pub fn into_body(self) -> Bytes
+        ensures value { result ≡ self.body }
+        ensures lawful { IsReply self }
+    {
+        let Reply { body, .. } = self;
+        body
+    }
+
     /// The body, at most 32,768 bytes.
     pub fn body(&self) -> &[u8]
         ensures value { result.now ≡ self.now.body }
@@ -78,9 +87,33 @@ impl ExactCopy for Reply {
     }
 }
 
+impl PartialEq for Reply {
+    ghost use Rattle.std.proofs.Common.{rules};
+    ghost use Rattle.std.specs.Cmp.Rules.{comparing};
+    ghost use Rattle.pws_event.specs.Equal.{same_reply};
+
+    ghost eq = { same_reply };
+
+    ghost laws = { Prim.search (comparing, rules) };
+
+    fn eq(&self, other: &Reply) -> bool
+        ensures value { result ≡ same_reply self.now other.now }
+        ensures same { IsTrue result ↔ (self.now ≡ other.now) }
+    {
+        self.called == other.called && self.number == other.number && self.body == other.body
+    }
+}
+
+impl Eq for Reply {
+    ghost use Rattle.std.proofs.Common.{rules};
+    ghost use Rattle.std.specs.Cmp.Rules.{comparing};
+
+    ghost laws = { Prim.search (comparing, rules) };
+}
+
 /// The abort of a call that wasn't answered in time: the called group, 0 to 15, and the number of the call, 1 to
 /// 1,000,000.
-#[derive(Debug, Drop)]
+#[derive(Clone, Copy, Debug, PartialEq, Eq)]
 pub struct Abort {
     called: GroupId,
     number: Number,
@@ -94,6 +127,8 @@ impl Model for Abort {
     ghost view = { λ a. record { called = a.called; number = a.number } };
 
     ghost invariant = { λ a. IsAbort (record { called = a.called; number = a.number }) };
+
+    ghost inverse = { λ a. record { called = a.called; number = a.number } };
 }
 
 impl Abort {
@@ -124,9 +159,6 @@ impl Abort {
 
 impl ExactCopy for Abort {
     fn copy(&self, _alloc: Global) -> Result<Abort, Memory> {
-        Ok(Abort {
-            called: self.called,
-            number: self.number,
-        })
+        Ok(*self)
     }
 }

@@ -4,6 +4,7 @@ use crate::events::Event;
 use crate::readings::{Clock, Random, Sort};
 use crate::requests::Request;
 use crate::times::agreed_time;
+use pws_base::limits::{CALL_WINDOW, MAX_NUMBER};
 use pws_base::lists::ExactCopy;
 use pws_base::memory::Memory;
 use pws_base::shapes::{GroupId, Layout, Number};
@@ -26,14 +27,24 @@ pub enum Taken {
 /// which is what a history comes to, and each answer is the one that the rule of effects gives for that past.
 #[derive(Clone, Copy, Debug)]
 pub struct Effect {
+    /// The group whose events these are.
     me: GroupId,
+    /// All groups.
     layout: Layout,
+    /// By caller, the number of its last request that took effect; 0 before the first.
     last: [u32; 16],
+    /// By caller, the low number of that request; 1 before the first.
     low: [u32; 16],
+    /// By called group, the number of the last call to it that was noted; 0 before the first.
     called: [u32; 16],
+    /// By called group sixteen slots, one for each remainder of a number by 16: the number of the call that waits
+    /// there; 0 where none does.
     waiting: [u32; 256],
+    /// How many asks were answered.
     answered: u32,
+    /// What the ask that waits is for, if one waits.
     ask: Option<Sort>,
+    /// The agreed time in milliseconds; 0 before the first.
     clock: u64,
 }
 
@@ -49,13 +60,15 @@ impl Model for Effect {
     ghost inverse = { λ c. record { me = c.me; layout = c.layout; last = c.last; low = c.low; called = c.called; waiting = c.waiting; answered = c.answered; ask = c.ask; clock = c.clock } };
 }
 
-ghost use Rattle.std.specs.Prelude.{◌≡◌, ◌<◌, ◌≤◌, ◌+◌, ◌∷◌, [], List, length, slice_index, if◌then◌else◌, None, false, IsTrue, IsNone, ◌↔◌};
+ghost use Rattle.std.specs.Prelude.{◌≡◌, ◌<◌, ◌≤◌, ◌+◌, ◌∷◌, [], List, length, max, slice_index, if◌then◌else◌, None, false, IsTrue, IsNone, ◌↔◌};
 ghost use Rattle.std.specs.Option.{option_map};
+ghost use Rattle.pws_base.specs.Limits.{max_number, call_window};
+ghost use Rattle.pws_base.specs.Replicas.{is_other};
 ghost use Rattle.pws_event.specs.declared.events.Event.{Event};
 ghost use Rattle.pws_event.specs.Requests.{IsRequest};
 ghost use Rattle.pws_event.specs.Readings.{IsClock, IsRandom};
 ghost use Rattle.pws_event.specs.Events.{IsEvent};
-ghost use Rattle.pws_event.specs.Effects.{last_of, low_of, is_other, is_sort, waits, last_call, low_out, waiting_ask, answered_asks, clock_of, takes_effect};
+ghost use Rattle.pws_event.specs.Effects.{last_of, low_of, is_sort, waits, last_call, low_out, waiting_ask, answered_asks, clock_of, takes_effect};
 ghost use Rattle.pws_event.specs.Histories.{Past, nothing, with_call, with_ask, after_event};
 ghost use Rattle.pws_event.specs.Counters.{IsCounters, HasTaken, CanCall, counter_of, slot_of, is_waiting, least_waiting, would_take, would_answer, would_effect, after_request, after_answer, ask_answered, after_clock, after_seed, after_call, after_ask, counters_after};
 
@@ -87,7 +100,7 @@ impl Effect {
         ensures me { result.me ≡ me }
         ensures layout { result.layout ≡ layout.now }
     {
-        // a layout has at most 16 groups, as many as there are counters
+        // shows: a layout has at most 16 groups, as many as there are counters
         let _groups = layout.groups();
         Effect {
             me,
@@ -102,13 +115,29 @@ impl Effect {
         }
     }
 
+    /// The group whose events these are, one of the layout.
+    pub fn me(&self) -> GroupId
+        ensures value { result ≡ self.now.me }
+        ensures lawful { IsCounters self.now }
+    {
+        self.me
+    }
+
+    /// All groups.
+    pub fn layout(&self) -> Layout
+        ensures value { result ≡ self.now.layout }
+        ensures lawful { IsCounters self.now }
+    {
+        self.layout
+    }
+
     /// The number of a caller's last request that took effect; 0 before the first, and always for the own group and
     /// for a number that is no group of the layout.
     pub fn last(&self, caller: GroupId) -> Number
         ensures value { (past : Past) → HasTaken self.now past → result ≡ last_of caller past.effects }
         ensures counter { result ≡ counter_of self.now.last caller 0 }
         ensures none { is_other self.now.me self.now.layout caller ≡ false → result ≡ 0 }
-        ensures small { result ≤ 1000000 }
+        ensures small { result ≤ max_number }
     {
         if caller < 16 {
             self.last[caller as usize]
@@ -118,11 +147,15 @@ impl Effect {
     }
 
     /// The low number of a caller's last request that took effect; 1 before the first, and always for the own group
-    /// and for a number that is no group of the layout.
+    /// and for a number that is no group of the layout. It is at most the number of that request, which is below it plus
+    /// 16.
     pub fn low_in(&self, caller: GroupId) -> Number
         ensures value { (past : Past) → HasTaken self.now past → result ≡ low_of caller past.effects }
         ensures counter { result ≡ counter_of self.now.low caller 1 }
         ensures none { is_other self.now.me self.now.layout caller ≡ false → result ≡ 1 }
+        ensures least { 1 ≤ result }
+        ensures most { result ≤ max 1 (counter_of self.now.last caller 0) }
+        ensures window { counter_of self.now.last caller 0 < result + call_window }
     {
         if caller < 16 {
             self.low[caller as usize]
@@ -137,7 +170,7 @@ impl Effect {
         ensures value { (past : Past) → HasTaken self.now past → result ≡ last_call past.acts.calls called }
         ensures counter { result ≡ counter_of self.now.called called 0 }
         ensures none { is_other self.now.me self.now.layout called ≡ false → result ≡ 0 }
-        ensures small { result ≤ 1000000 }
+        ensures small { result ≤ max_number }
     {
         if called < 16 {
             self.called[called as usize]
@@ -147,13 +180,17 @@ impl Effect {
     }
 
     /// The least number of a call to a group that waits for its answer, or where none waits the number of the next,
-    /// which is 1 before the first, and always for the own group and for a number that is no group of the layout.
+    /// which is 1 before the first, and always for the own group and for a number that is no group of the layout. The
+    /// number of the last call is below it plus 16.
     #[tactic(auto, using(crate::proofs::Outgoing::low_out_same, crate::proofs::Outgoing::low_out_none))]
     pub fn low_out(&self, called: GroupId) -> Number
         ensures value { (past : Past) → HasTaken self.now past → result ≡ low_out past.acts past.effects called }
         ensures counter { result ≡ least_waiting self.now called }
         ensures none { is_other self.now.me self.now.layout called ≡ false → result ≡ 1 }
-        ensures small { result ≤ 1000001 }
+        ensures least { 1 ≤ result }
+        ensures most { result ≤ counter_of self.now.called called 0 + 1 }
+        ensures window { counter_of self.now.called called 0 < result + call_window }
+        ensures small { result ≤ max_number + 1 }
     {
         self.find_low_out(called)
     }
@@ -163,8 +200,12 @@ impl Effect {
     fn find_low_out(&self, called: GroupId) -> Number
         ensures counter { result ≡ least_waiting self.now called }
         ensures counters { IsCounters self.now }
-        ensures small { result ≤ 1000001 }
+        ensures least { 1 ≤ result }
+        ensures most { result ≤ counter_of self.now.called called 0 + 1 }
+        ensures window { counter_of self.now.called called 0 < result + call_window }
+        ensures small { result ≤ max_number + 1 }
     {
+        // shows: the counters are in range
         let _own = &self.me;
         let last = self.last_call(called);
         let first = last.saturating_sub(15);
@@ -208,7 +249,7 @@ impl Effect {
     pub fn answered_asks(&self) -> u32
         ensures value { (past : Past) → HasTaken self.now past → result ≡ answered_asks past.effects }
         ensures counter { result ≡ self.now.answered }
-        ensures small { result ≤ 1000000 }
+        ensures small { result ≤ max_number }
     {
         self.answered
     }
@@ -236,12 +277,11 @@ impl Effect {
         ensures lawful { IsRequest request.now }
     {
         let caller = request.caller();
-        caller < self.layout.groups()
-            && caller != self.me
+        self.layout.is_other(self.me, caller)
             && request.number() == self.last[caller as usize] + 1
             && self.low[caller as usize] <= request.low()
             && request.low() <= request.number()
-            && request.number() < request.low() + 16
+            && request.number() < request.low() + CALL_WINDOW
     }
 
     /// Takes the next event of the group's list: `Taken` exactly where it takes effect, and else `Void`, which leaves
@@ -249,6 +289,7 @@ impl Effect {
     #[tactic(auto, using(crate::proofs::Counted::effect_same))]
     pub fn take(&mut self, event: &Event) -> Taken
         ensures taken { (past : Past) → HasTaken self.old past → HasTaken self.new (after_event self.old.me self.old.layout past event.now) }
+        ensures decided { result ≡ (if would_effect self.old event.now then Taken.Taken else Taken.Void) }
         ensures answer { (past : Past) → HasTaken self.old past → result ≡ (if takes_effect self.old.me self.old.layout past.acts past.effects event.now then Taken.Taken else Taken.Void) }
         ensures counters { self.new ≡ counters_after self.old event.now }
         ensures me { self.new.me ≡ self.old.me }
@@ -265,6 +306,7 @@ impl Effect {
     {
         match event {
             Event::Null => {
+                // shows: the counters are in range
                 let _same = &self.me;
                 Taken::Void
             }
@@ -317,7 +359,7 @@ impl Effect {
 
     /// Answers the ask that waits.
     fn answer_ask(&mut self)
-        requires { self.old.answered < 1000000 }
+        requires { self.old.answered < max_number }
         ensures { self.new ≡ ask_answered self.old }
     {
         self.answered += 1;
@@ -372,17 +414,10 @@ impl Effect {
     pub fn can_call(&self, called: GroupId, number: Number) -> bool
         ensures { IsTrue result ↔ CanCall self.now called number }
     {
-        self.is_other(called)
+        self.layout.is_other(self.me, called)
             && number == self.last_call(called) + 1
-            && number < self.low_out(called) + 16
-            && number <= 1000000
-    }
-
-    /// Whether a group is another one of the layout.
-    fn is_other(&self, group: GroupId) -> bool
-        ensures { result ≡ is_other self.now.me self.now.layout group }
-    {
-        group < self.layout.groups() && group != self.me
+            && number < self.low_out(called) + CALL_WINDOW
+            && number <= MAX_NUMBER
     }
 
     /// Notes the next call of the group's service, which is one that may be noted.

@@ -1,9 +1,11 @@
 //! Events, their texts and their digests.
 
-ghost use Rattle.std.specs.Prelude.{◌≡◌, ◌++◌, IfOk, OnOk};
+ghost use Rattle.std.specs.Prelude.{◌≡◌, ◌↔◌, ◌++◌, ◌≤◌, length, IfOk, OnOk, IsTrue};
 ghost use Rattle.sha2.specs.Sha256.{sha256};
 ghost use Rattle.std.specs.List.{flat_map};
-ghost use Rattle.pws_event.specs.Events.{request_text, reply_text, abort_text, reading_text, clock_text, share_text, random_text, event_text, digest_of};
+ghost use Rattle.pws_event.specs.Events.{request_text, reply_text, abort_text, reading_text, clock_text, share_text, random_text, event_text, digest_of, IsEvent};
+ghost use Rattle.pws_base.specs.Limits.{max_event};
+ghost use Rattle.pws_event.specs.declared.events.Event.{Event};
 
 use crate::answers::{Abort, Reply};
 use crate::readings::{Clock, Random, Reading, Share};
@@ -16,7 +18,7 @@ use sha2::{Digest as _, Sha256};
 use std::alloc::Global;
 
 /// What a group agrees on at one place.
-#[derive(Debug, Drop)]
+#[derive(Debug, Drop, PartialEq, Eq)]
 pub enum Event {
     /// Nothing: it keeps its place and changes nothing.
     Null,
@@ -30,6 +32,48 @@ pub enum Event {
     Clock(Clock),
     /// Shares of a seed, which answer an ask for one.
     Random(Random),
+}
+
+impl Event {
+    /// Whether two events are one.
+    pub fn is_same(&self, other: &Event) -> bool
+        ensures { IsTrue result ↔ (self.now ≡ other.now) }
+    {
+        match (self, other) {
+            (Event::Null, Event::Null) => true,
+            (Event::Request(request), Event::Request(second)) => request == second,
+            (Event::Reply(reply), Event::Reply(second)) => reply == second,
+            (Event::Abort(abort), Event::Abort(second)) => abort == second,
+            (Event::Clock(clock), Event::Clock(second)) => clock == second,
+            (Event::Random(random), Event::Random(second)) => random == second,
+            _ => false,
+        }
+    }
+
+    /// An event's fields are in range.
+    pub fn lawful(&self)
+        ensures { IsEvent self.now }
+    {
+        // shows: what an event holds is in range, by its type
+        match self {
+            Event::Null => {}
+            Event::Request(request) => {
+                let _caller = request.caller();
+            }
+            Event::Reply(reply) => {
+                let _called = reply.called();
+            }
+            Event::Abort(abort) => {
+                let _called = abort.called();
+            }
+            Event::Clock(clock) => {
+                let _ask = clock.ask();
+            }
+            Event::Random(random) => {
+                let _ask = random.ask();
+            }
+        }
+    }
 }
 
 impl ExactCopy for Event {
@@ -155,6 +199,24 @@ pub fn write_event(alloc: Global, event: &Event) -> Result<Vec<u8>, Memory>
         Event::Random(random) => put_random(&mut text, random)?,
     }
     Ok(text.into_bytes().into_vec())
+}
+
+/// How many bytes the text of an event has, at most 32,782; it takes no memory.
+#[tactic(auto, using(crate::proofs::Lengths::request_length, crate::proofs::Lengths::reply_length, crate::proofs::Lengths::abort_length, crate::proofs::Lengths::clock_length, crate::proofs::Lengths::random_length, crate::proofs::Lengths::event_small))]
+pub fn event_length(event: &Event) -> usize
+    ensures value { result ≡ length (event_text event.now) }
+    ensures lawful { IsEvent event.now }
+    ensures small { result ≤ max_event }
+{
+    event.lawful(); // shows: what the event holds is in range, by its type
+    match event {
+        Event::Null => 1,
+        Event::Request(request) => 14 + request.body().len(),
+        Event::Reply(reply) => 10 + reply.body().len(),
+        Event::Abort(_) => 6,
+        Event::Clock(clock) => 6 + 9 * clock.readings().len(),
+        Event::Random(random) => 6 + 33 * random.shares().len(),
+    }
 }
 
 /// The digest of an event: the SHA-256 of its text.

@@ -54,8 +54,11 @@ impl From<Memory> for PushError {
 /// One place: the digest of its event, the chain up to it, and the event unless the place is bare.
 #[derive(Drop)]
 struct Slot {
+    /// The digest of its event.
     digest: Digest,
+    /// The chain up to it.
     chain: Digest,
+    /// Its event; none where the place is bare.
     event: Option<Event>,
 }
 
@@ -66,7 +69,9 @@ struct Slot {
 /// event where it has one.
 #[derive(Drop)]
 pub struct EventList {
+    /// The places, in order.
     slots: Vec<Slot>,
+    /// How many bytes the texts of the events kept whole have together.
     bytes: u64,
 }
 

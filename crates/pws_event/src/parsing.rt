@@ -174,7 +174,8 @@ fn read_kind(
 ///
 /// # Errors
 ///
-/// `Fault` as `read_event`, but for bytes that follow, and else `Memory` only.
+/// `Fault` as `read_event`, but for bytes that follow, and else `Memory` only. The reader then stands somewhere in what
+/// was left.
 #[tactic(auto, unfolding(crate::specs::EventFields::event_at))]
 pub fn read_fields(alloc: Global, fields: &mut FieldReader<'_>) -> Result<Event, FieldError>
     ensures { GivesOrMemory (λ e. e) result fields.new (event_at fields.old) }

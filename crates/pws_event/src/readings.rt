@@ -1,6 +1,6 @@
 //! What replicas read of the clock, or give as shares of a seed.
 
-ghost use Rattle.std.specs.Prelude.{◌≡◌};
+ghost use Rattle.std.specs.Prelude.{◌≡◌, ◌↔◌, IsTrue};
 ghost use Rattle.pws_event.specs.Readings.{ClockFields, IsClock, RandomFields, IsRandom};
 
 use pws_base::lists::{ExactCopy, Sequence};
@@ -79,6 +79,15 @@ impl Clock {
         self.ask
     }
 
+    /// The readings, which aren't copied.
+    pub fn into_readings(self) -> Sequence<Reading>
+        ensures value { result ≡ self.readings }
+        ensures lawful { IsClock self }
+    {
+        let Clock { readings, .. } = self;
+        readings
+    }
+
     /// The readings, 1, 3, 5 or 7, rising by index.
     pub fn readings(&self) -> &[Reading]
         ensures value { result.now ≡ self.now.readings }
@@ -95,6 +104,28 @@ impl ExactCopy for Clock {
             readings: self.readings.copy(alloc)?,
         })
     }
+}
+
+impl PartialEq for Clock {
+    ghost use Rattle.std.specs.Cmp.{partial_equiv_from_equiv};
+    ghost use Rattle.pws_event.specs.Equal.{same_clock, clock_equiv};
+
+    ghost eq = { same_clock };
+
+    ghost laws = { partial_equiv_from_equiv clock_equiv };
+
+    fn eq(&self, other: &Clock) -> bool
+        ensures value { result ≡ same_clock self.now other.now }
+        ensures same { IsTrue result ↔ (self.now ≡ other.now) }
+    {
+        self.ask == other.ask && self.readings.as_slice() == other.readings.as_slice()
+    }
+}
+
+impl Eq for Clock {
+    ghost use Rattle.pws_event.specs.Equal.{clock_equiv};
+
+    ghost laws = { clock_equiv };
 }
 
 /// The shares that answer an ask for a seed.
@@ -133,6 +164,15 @@ impl Random {
         self.ask
     }
 
+    /// The shares, which aren't copied.
+    pub fn into_shares(self) -> Sequence<Share>
+        ensures value { result ≡ self.shares }
+        ensures lawful { IsRandom self }
+    {
+        let Random { shares, .. } = self;
+        shares
+    }
+
     /// The shares, 1, 3, 5 or 7, rising by index.
     pub fn shares(&self) -> &[Share]
         ensures value { result.now ≡ self.now.shares }
@@ -149,4 +189,26 @@ impl ExactCopy for Random {
             shares: self.shares.copy(alloc)?,
         })
     }
+}
+
+impl PartialEq for Random {
+    ghost use Rattle.std.specs.Cmp.{partial_equiv_from_equiv};
+    ghost use Rattle.pws_event.specs.Equal.{same_random, random_equiv};
+
+    ghost eq = { same_random };
+
+    ghost laws = { partial_equiv_from_equiv random_equiv };
+
+    fn eq(&self, other: &Random) -> bool
+        ensures value { result ≡ same_random self.now other.now }
+        ensures same { IsTrue result ↔ (self.now ≡ other.now) }
+    {
+        self.ask == other.ask && self.shares.as_slice() == other.shares.as_slice()
+    }
+}
+
+impl Eq for Random {
+    ghost use Rattle.pws_event.specs.Equal.{random_equiv};
+
+    ghost laws = { random_equiv };
 }

@@ -1,6 +1,6 @@
 //! The request of a caller.
 
-ghost use Rattle.std.specs.Prelude.{◌≡◌, IfOk};
+ghost use Rattle.std.specs.Prelude.{◌≡◌, ◌↔◌, IsTrue};
 ghost use Rattle.pws_event.specs.Requests.{RequestFields, IsRequest};
 
 use pws_base::bytes::Bytes;
@@ -70,6 +70,15 @@ impl Request {
         self.low
     }
 
+    /// The body, which isn't copied, at most 32,768 bytes.
+    pub fn into_body(self) -> Bytes
+        ensures value { result ≡ self.body }
+        ensures lawful { IsRequest self }
+    {
+        let Request { body, .. } = self;
+        body
+    }
+
     /// The body, at most 32,768 bytes.
     pub fn body(&self) -> &[u8]
         ensures value { result.now ≡ self.now.body }
@@ -88,4 +97,31 @@ impl ExactCopy for Request {
             body: self.body.copy(alloc)?,
         })
     }
+}
+
+impl PartialEq for Request {
+    ghost use Rattle.std.proofs.Common.{rules};
+    ghost use Rattle.std.specs.Cmp.Rules.{comparing};
+    ghost use Rattle.pws_event.specs.Equal.{same_request};
+
+    ghost eq = { same_request };
+
+    ghost laws = { Prim.search (comparing, rules) };
+
+    fn eq(&self, other: &Request) -> bool
+        ensures value { result ≡ same_request self.now other.now }
+        ensures same { IsTrue result ↔ (self.now ≡ other.now) }
+    {
+        self.caller == other.caller
+            && self.number == other.number
+            && self.low == other.low
+            && self.body == other.body
+    }
+}
+
+impl Eq for Request {
+    ghost use Rattle.std.proofs.Common.{rules};
+    ghost use Rattle.std.specs.Cmp.Rules.{comparing};
+
+    ghost laws = { Prim.search (comparing, rules) };
 }

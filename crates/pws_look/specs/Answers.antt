@@ -6,14 +6,14 @@ use Rattle.pws_base.specs.declared.shapes.ReplicaId.{ReplicaId}
 use Rattle.pws_event.specs.EventFields.{event_of}
 use Rattle.pws_event.specs.Events.{digest_of}
 use Rattle.pws_event.specs.declared.events.Event.{Event}
+use Rattle.pws_msg.specs.Kinds.{kind_name}
+use Rattle.pws_msg.specs.Contents.{kind_of}
 use Rattle.pws_msg.specs.Packets.{PacketFields}
 use Rattle.pws_msg.specs.PacketFields.{packet_of}
-use Rattle.pws_msg.specs.declared.contents.Content.{Content}
-use Rattle.pws_msg.specs.declared.contents.Content.TheVariants as content
 use Rattle.pws_msg.specs.declared.errors.PacketError.{PacketError}
 use Rattle.pws_msg.specs.declared.errors.PacketFault.{PacketFault}
 use Rattle.pws_msg.specs.declared.errors.PacketFault.TheVariants as fault
-use Rattle.pws_sched.specs.Words.{event_words}
+use Rattle.pws_event.specs.Words.{event_words}
 use Rattle.pws_script.specs.Scripts.{Reads}
 use Rattle.pws_script.specs.declared.faults.ReadScriptError.TheVariants as read_error
 use Rattle.pws_script.specs.declared.faults.ScriptError.{ScriptError}
@@ -38,26 +38,6 @@ event_answer (Err f) = refused (codes "at " ++ decimal f.at)
 
 -- ---- packets
 
--- the names of contents, by the table in docs/FORMATS.md
-abbrev pub content_name : Content → List ℕ
-content_name (content.Request x) = codes "REQ"
-content_name (content.Reply x) = codes "REPLY"
-content_name (content.Part x) = codes "PART"
-content_name (content.Expired x) = codes "EXPIRED"
-content_name (content.Reading x) = codes "READING"
-content_name (content.PrePrepare x) = codes "PRE_PREPARE"
-content_name (content.Prepare x) = codes "PREPARE"
-content_name (content.Commit x) = codes "COMMIT"
-content_name (content.Checkpoint x) = codes "CHECKPOINT"
-content_name (content.ViewChange x) = codes "VIEW_CHANGE"
-content_name (content.Ack x) = codes "ACK"
-content_name (content.NewView x) = codes "NEW_VIEW"
-content_name (content.Relay x) = codes "RELAY"
-content_name (content.Fetch x) = codes "FETCH"
-content_name (content.Done x) = codes "DONE"
-content_name (content.Need x) = codes "NEED"
-content_name (content.Give x) = codes "GIVE"
-
 abbrev pub body_words : Option (List ℕ) → List ℕ
 body_words None = codes "-"
 body_words (Some body) = decimal (length body)
@@ -72,7 +52,7 @@ attached_words tags body vouchers = codes "tags " ++ decimal tags ++ codes " bod
 
 abbrev pub packet_line : PacketFields → List ℕ
 packet_line p =
-    codes "ok " ++ statement_words (content_name p.content) p.sender p.receiver
+    codes "ok " ++ statement_words (kind_name (kind_of p.content)) p.sender p.receiver
     ++ codes " " ++ attached_words (length p.tags) (body_words p.body) (length p.vouchers)
 
 abbrev pub fault_word : PacketFault → List ℕ

@@ -4,10 +4,10 @@ ghost use Rattle.std.specs.Prelude.{◌≡◌, IfOk, string_bytes};
 ghost use Rattle.std.specs.Option.{option_copied};
 ghost use Rattle.std.specs.Prelude.{Ok, Err};
 ghost use Rattle.pws_event.specs.EventFields.{event_of};
-ghost use Rattle.pws_sched.specs.Words.{event_words};
+ghost use Rattle.pws_event.specs.Words.{event_words};
 ghost use Rattle.pws_msg.specs.PacketFields.{packet_of};
 ghost use Rattle.pws_look.specs.Good.{good, refused};
-ghost use Rattle.pws_look.specs.Answers.{Answers, event_line, event_answer, packet_answer, fault_word, script_word, content_name, body_words, statement_words, attached_words, packet_line, script_answer, ScriptAnswers};
+ghost use Rattle.pws_look.specs.Answers.{Answers, event_line, event_answer, packet_answer, fault_word, script_word, body_words, statement_words, attached_words, packet_line, script_answer, ScriptAnswers};
 
 use crate::envelopes::{envelope_answer, soap_answer};
 use crate::words::Kind;
@@ -17,11 +17,10 @@ use pws_base::memory::Memory;
 use pws_base::shapes::{GroupId, ReplicaId};
 use pws_event::events::{Event, event_digest};
 use pws_event::parsing::read_event;
-use pws_msg::contents::Content;
+use pws_event::words::event_words;
 use pws_msg::errors::{PacketFault, PacketReadError};
 use pws_msg::packet_reading::read_packet;
 use pws_msg::packets::Packet;
-use pws_sched::words::event_words;
 use pws_script::faults::{ReadScriptError, ScriptError, ScriptFault};
 use pws_script::scripts::Script;
 use std::alloc::Global;
@@ -76,31 +75,6 @@ fn event_answer(alloc: Global, text: &[u8]) -> Result<Answer, Memory>
     }
 }
 
-/// The name of a content.
-fn content_name(content: &Content) -> &'static str
-    ensures { result.now ≡ content_name content.now }
-{
-    match content {
-        Content::Request(_) => "REQ",
-        Content::Reply(_) => "REPLY",
-        Content::Part(_) => "PART",
-        Content::Expired(_) => "EXPIRED",
-        Content::Reading(_) => "READING",
-        Content::PrePrepare(_) => "PRE_PREPARE",
-        Content::Prepare(_) => "PREPARE",
-        Content::Commit(_) => "COMMIT",
-        Content::Checkpoint(_) => "CHECKPOINT",
-        Content::ViewChange(_) => "VIEW_CHANGE",
-        Content::Ack(_) => "ACK",
-        Content::NewView(_) => "NEW_VIEW",
-        Content::Relay(_) => "RELAY",
-        Content::Fetch(_) => "FETCH",
-        Content::Done(_) => "DONE",
-        Content::Need(_) => "NEED",
-        Content::Give(_) => "GIVE",
-    }
-}
-
 /// The length of a body, or a dash.
 fn body_words(alloc: Global, body: Option<&Bytes>) -> Result<String, Memory>
     ensures { IfOk result (λ words. string_bytes words ≡ body_words (option_copied body.entry)) }
@@ -139,7 +113,7 @@ fn attached_words(alloc: Global, tags: usize, body: &str, vouchers: usize) -> Re
 fn packet_line(alloc: Global, packet: &Packet) -> Result<String, Memory>
     ensures { IfOk result (λ line. string_bytes line ≡ packet_line packet.now) }
 {
-    let name = content_name(packet.content());
+    let name = packet.content().kind().name();
     let statement = statement_words(alloc, name, packet.sender(), packet.receiver())?;
     let tags = packet.tags().len();
     let body = body_words(alloc, packet.body())?;

@@ -1,5 +1,5 @@
--- What a reader that takes one character after another notes as refused. It is here for the proofs alone: no contract of
--- another crate names it.
+-- What a reader that takes one character after another notes as refused. It is here for the proofs: of other crates'
+-- contracts it stands behind `tree_of` alone (`TreeOf`), where a law says what that means without it.
 use Rattle.std.specs.Prelude.{◌↔◌, ℕ, ◌+◌, Bool, not, ◌&&◌, ◌||◌, ◌==◌, nat_le, if◌then◌else◌, List, [], ◌∷◌, ◌++◌, length, map, Option, Some, None, is_none, encode_utf8, Contains}
 use Rattle.std.specs.List.{list_any}
 use Rattle.pws_tree.specs.Characters.{is_name_start}

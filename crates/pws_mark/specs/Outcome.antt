@@ -1,5 +1,6 @@
 -- What a text is refused for, by where the reader that takes one character after another stops. It is here for the
--- proofs alone: no contract of another crate names it.
+-- proofs: of other crates' contracts it stands behind `tree_of` alone (`TreeOf`), where a law says what that means without
+-- it.
 use Rattle.std.specs.Prelude.{◌≡◌, ◌↔◌, ℕ, ◌+◌, ◌-◌, Bool, true, false, not, ◌&&◌, List, [], ◌∷◌, ◌++◌, map, Option, Some, None, IsTrue, Contains, codes, encode_utf8_all}
 use Rattle.std.specs.Str.{all_scalars}
 use Rattle.pws_tree.specs.Lawful.{is_lawful}

@@ -1,5 +1,6 @@
 -- How the reader that takes one character after another and the definitions of documents agree. It is here for the
--- proofs alone: no contract of another crate names it.
+-- proofs: of other crates' contracts only what it has of events stands behind `tree_of` (`TreeOf`), where a law says what
+-- that means without it.
 use Rattle.std.specs.Prelude.{◌≡◌, ◌⊎◌, ℕ, suc, ◌<◌, ◌≤◌, Bool, true, false, ◌&&◌, List, [], ◌∷◌, ◌++◌, length, take, Some, IsTrue, encode_utf8, encode_utf8_all}
 use Rattle.std.specs.Option.{is_some}
 use Rattle.pws_tree.specs.Lawful.{is_lawful}

@@ -1,5 +1,5 @@
--- The grammar as a reader that takes one character after another, and how far it comes. It is here for the proofs alone:
--- no contract of another crate names it.
+-- The grammar as a reader that takes one character after another, and how far it comes. It is here for the proofs: of
+-- other crates' contracts it stands behind `tree_of` alone (`TreeOf`), where a law says what that means without it.
 use Rattle.std.specs.Prelude.{ℕ, ◌+◌, ◌-◌, ◌*◌, Bool, true, false, not, ◌&&◌, ◌||◌, ◌==◌, nat_le, if◌then◌else◌, List, [], ◌∷◌, ◌++◌, length, slice_get, option_map, Option, Some, None, unwrap_or, codes, encode_utf8}
 use Rattle.std.specs.Char.{to_ascii_lowercase}
 use Rattle.pws_tree.specs.Characters.{is_xml_char, is_name_start, is_name_char}

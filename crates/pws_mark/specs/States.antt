@@ -1,5 +1,5 @@
--- What a reader that takes one character after another knows. It is here for the proofs alone: no contract of another
--- crate names it.
+-- What a reader that takes one character after another knows. It is here for the proofs: of other crates' contracts it
+-- stands behind `tree_of` alone (`TreeOf`), where a law says what that means without it.
 use Rattle.std.specs.Prelude.{ℕ, Bool, true, false, not, ◌&&◌, if◌then◌else◌, List, [], ◌∷◌, ◌++◌, filter, option_map, Option, Some, None, unwrap_or, is_none}
 use Rattle.std.specs.List.{filter_map}
 use Rattle.std.specs.Option.{option_and_then}

@@ -1,5 +1,5 @@
 -- The one tree that a text stands for. It is given by the reader that takes one character after another; that this is the
--- tree that the text means is a law.
+-- tree that the text means is the law `TreesAreMeant`, so nobody has to believe the reader's definitions.
 use Rattle.std.specs.Prelude.{◌≡◌, ◌↔◌, ℕ, ◌≤◌, Bool, true, false, ◌&&◌, nat_le, if◌then◌else◌, List, [], ◌∷◌, length, chars, Option, Some, None, Result, Ok, Err}
 use Rattle.std.specs.Str.{is_utf8}
 use Rattle.pws_tree.specs.Trees.{Tree, Nodes, NoNode, TextThen, QualifiedThen, ElementThen}

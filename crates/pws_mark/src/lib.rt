@@ -29,7 +29,7 @@ mod declaring;
 pub mod errors;
 pub mod laws;
 mod least;
-pub mod modes;
+mod modes;
 mod names;
 mod outer;
 mod reader_laws;
@@ -44,8 +44,6 @@ mod steps;
 mod stopping;
 mod tag_steps;
 mod tags;
-#[cfg(test)]
-mod tests;
 mod values;
 mod words;
 pub mod writing;

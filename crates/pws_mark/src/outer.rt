@@ -30,9 +30,13 @@ use std::mem;
 /// The open elements, whether the root is closed, what was read, and the text behind it.
 #[derive(Drop)]
 pub struct Outer {
+    /// The open elements, with the namespaces of their prefixes.
     opens: Opens,
+    /// Whether the root is closed.
     behind: bool,
+    /// The tags and texts that were read, in their order.
     events: Sequence<Event>,
+    /// The text since the last of these, which may go on.
     text: String,
 }
 
@@ -123,9 +127,13 @@ impl Outer {
 /// What a complete tag begins.
 #[derive(Drop)]
 struct Begun {
+    /// The prefixes that the tag declares.
     scope: Scope,
+    /// The element's name, with its namespace.
     name: Name,
+    /// Its attributes, in the order of the text.
     attrs: Sequence<Attr>,
+    /// Whether the element is `Value` of the envelope namespace, whose content is a name.
     is_word: bool,
 }
 

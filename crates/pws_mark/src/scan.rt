@@ -72,9 +72,13 @@ fn next(
 #[derive(Drop)]
 pub struct Scan {
     alloc: Global,
+    /// How many bytes were taken.
     at: Place,
+    /// Where in a tag, a reference, a comment or the like the reader is.
     mode: Mode,
+    /// What was read outside of that.
     outer: Outer,
+    /// The least place that is refused so far, with its kind.
     least: Least,
 }
 

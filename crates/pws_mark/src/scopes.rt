@@ -13,9 +13,9 @@ ghost use Rattle.pws_mark.specs.Scopes.{opened, word_at, kept, Pops, inside_of, 
 
 use crate::declaring::has_at;
 use crate::names::letters_of;
-use crate::spaces::XML_SPACE;
 use pws_base::lists::Sequence;
 use pws_base::memory::Memory;
+use pws_tree::spaces::XML_SPACE;
 use pws_tree::texts::Text;
 use std::alloc::Global;
 use std::collections::BTreeMap;
@@ -26,7 +26,9 @@ use std::marker::Model;
 /// The places find the first declaration of a prefix in few steps.
 #[derive(Drop)]
 pub struct Scope {
+    /// The declarations in the order of the text: a prefix, and its namespace.
     items: Sequence<(Sequence<char>, Option<Text>)>,
+    /// The index of the first declaration of each prefix.
     places: BTreeMap<Vec<char>, usize>,
 }
 
@@ -135,8 +137,11 @@ pub struct OpenElement {
 #[derive(Drop)]
 pub struct Opens {
     alloc: Global,
+    /// The open elements, the outermost first.
     items: Vec<OpenElement>,
+    /// For each prefix the indexes of the elements that declare it.
     levels: BTreeMap<Vec<char>, Vec<usize>>,
+    /// The namespace of the prefix `xml`, which needs no declaration.
     xml: Option<Text>,
 }
 

@@ -18,8 +18,11 @@ use std::marker::Model;
 /// The sets find a name in few steps.
 #[derive(Drop)]
 pub struct Seen<'a> {
+    /// The names, as written and as bound, the first one first.
     items: Vec<(&'a [char], &'a Option<Name>)>,
+    /// All names as written.
     written: BTreeSet<&'a [char]>,
+    /// All names as bound: namespace and local part.
     bound: BTreeSet<(&'a str, &'a str)>,
 }
 

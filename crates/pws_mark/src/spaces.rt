@@ -8,12 +8,10 @@ ghost use Rattle.pws_mark.specs.Canonical.{needs_prefix, with_space, tag_uses, u
 
 use indexmap::IndexSet;
 use pws_base::memory::Memory;
+use pws_tree::spaces::XML_SPACE;
 use pws_tree::trees::{Element, Node};
 use std::alloc::Global;
 use std::marker::Model;
-
-/// Namespaces in XML 1.0, section 3.
-pub const XML_SPACE: &str = "http://www.w3.org/XML/1998/namespace";
 
 /// The namespaces that need a prefix, which contracts see as their list in order of first use.
 #[derive(Drop)]

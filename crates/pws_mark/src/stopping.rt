@@ -35,10 +35,15 @@ pub enum BeyondAscii {
 /// What a stop needs of where the reader is.
 #[derive(Clone, Copy)]
 pub struct Stand {
+    /// Whether a document type is told apart here.
     early: bool,
+    /// Whether `<!` was read.
     bang: bool,
+    /// Whether this is inside of a comment or a CDATA section.
     within: bool,
+    /// How many bytes before stands the `<` of what may be a processing instruction.
     question: Option<usize>,
+    /// Which characters beyond ASCII may come.
     beyond: BeyondAscii,
 }
 

@@ -21,14 +21,11 @@ use crate::names::{has_two_colons, letters_of, prefix_declared};
 use crate::resolving::{Inside, or_no_name};
 use crate::scopes::Scope;
 use crate::seen::Seen;
-use crate::spaces::XML_SPACE;
 use pws_base::lists::{ExactCopy, Sequence};
 use pws_base::memory::Memory;
+use pws_tree::spaces::{XML_SPACE, XMLNS_SPACE};
 use pws_tree::texts::{Attr, Name, Text};
 use std::alloc::Global;
-
-/// Namespaces in XML 1.0, section 3.
-const XMLNS_SPACE: &str = "http://www.w3.org/2000/xmlns/";
 
 /// A copy of a namespace, if it is known.
 fn copy_space(alloc: Global, space: &Option<Text>) -> Result<Option<Text>, Memory>

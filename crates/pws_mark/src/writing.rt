@@ -7,9 +7,10 @@ ghost use Rattle.pws_tree.specs.Nodes.{node_then};
 ghost use Rattle.std.specs.Fmt.{decimal};
 ghost use Rattle.pws_mark.specs.Canonical.{declaration_text, text_byte, value_byte, value_text, prefix_text, name_text, attr_text, declarations_text, start_text, end_text, nodes_text, canonical};
 
-use crate::spaces::{Spaces, XML_SPACE};
+use crate::spaces::Spaces;
 use pws_base::memory::Memory;
 use pws_base::writers::Writer;
+use pws_tree::spaces::XML_SPACE;
 use pws_tree::texts::{Attr, Name};
 use pws_tree::trees::{Element, Node};
 use std::alloc::Global;

@@ -7,30 +7,31 @@ use Rattle.pws_msg.specs.StatementTexts.{counted_text}
 use Rattle.pws_msg.specs.Contents.{IsContent, kind_of, content_text}
 use Rattle.pws_msg.specs.Rules.{rule_of}
 use Rattle.pws_msg.specs.Packets.{VoucherFields, PacketFields, IsTags, IsVoucher, IsVoucherOf, IsAttachment, IsPacket, sender_text, tags_text, voucher_text, body_text, packet_text}
+use Rattle.pws_msg.specs.declared.kinds.Kind.TheVariants as kind
 use Rattle.pws_msg.specs.declared.contents.Content.{Content}
 use Rattle.pws_msg.specs.declared.contents.Content.TheVariants as content
 use Rattle.pws_msg.proofs.Streams.{length-u32_text}
 use Rattle.pws_msg.proofs.Lengths.{length-rows, content_small}
 
 -- a REPLY is shorter than other contents
-reply_small : (c : Content) → kind_of c ≡ 2 → IsContent c → length (content_text c) ≤ 38
-reply_small (content.Request r) k h = absurd (omega (arith, k))
+reply_small : (c : Content) → kind_of c ≡ kind.Reply → IsContent c → length (content_text c) ≤ 38
+reply_small (content.Request r) k h = absurd (cc)
 reply_small (content.Reply r) k h = simp (length-append, length-u32_text) (omega (arith, h.digest))
-reply_small (content.Part r) k h = absurd (omega (arith, k))
-reply_small (content.Expired n) k h = absurd (omega (arith, k))
-reply_small (content.Reading r) k h = absurd (omega (arith, k))
-reply_small (content.PrePrepare p) k h = absurd (omega (arith, k))
-reply_small (content.Prepare v) k h = absurd (omega (arith, k))
-reply_small (content.Commit v) k h = absurd (omega (arith, k))
-reply_small (content.Checkpoint d) k h = absurd (omega (arith, k))
-reply_small (content.ViewChange c) k h = absurd (omega (arith, k))
-reply_small (content.Ack n) k h = absurd (omega (arith, k))
-reply_small (content.NewView v) k h = absurd (omega (arith, k))
-reply_small (content.Relay n) k h = absurd (omega (arith, k))
-reply_small (content.Fetch w) k h = absurd (omega (arith, k))
-reply_small (content.Done d) k h = absurd (omega (arith, k))
-reply_small (content.Need x) k h = absurd (omega (arith, k))
-reply_small (content.Give e) k h = absurd (omega (arith, k))
+reply_small (content.Part r) k h = absurd (cc)
+reply_small (content.Expired n) k h = absurd (cc)
+reply_small (content.Reading r) k h = absurd (cc)
+reply_small (content.PrePrepare p) k h = absurd (cc)
+reply_small (content.Prepare v) k h = absurd (cc)
+reply_small (content.Commit v) k h = absurd (cc)
+reply_small (content.Checkpoint d) k h = absurd (cc)
+reply_small (content.ViewChange c) k h = absurd (cc)
+reply_small (content.Ack n) k h = absurd (cc)
+reply_small (content.NewView v) k h = absurd (cc)
+reply_small (content.Relay n) k h = absurd (cc)
+reply_small (content.Fetch w) k h = absurd (cc)
+reply_small (content.Done d) k h = absurd (cc)
+reply_small (content.Need x) k h = absurd (cc)
+reply_small (content.Give e) k h = absurd (cc)
 
 tags_small : (tags : List (List ℕ)) → IsTags tags → length (tags_text tags) ≤ 321
 tags_small tags h =
@@ -43,7 +44,7 @@ sized_length xs = length-append (u32_text (length xs)) xs ∙ ap (λ n. n + leng
 voucher_small : (v : VoucherFields) → IsVoucher v → length (voucher_text v) ≤ 33118
 voucher_small v h = omega (arith, length-append (sender_text v.sender ++ sized_text (content_text v.content)) (tags_text v.tags), length-append (sender_text v.sender) (sized_text (content_text v.content)), sized_length (content_text v.content), content_small v.content h.content, tags_small v.tags h.tags)
 
-reply_voucher_small : (v : VoucherFields) → IsVoucherOf 2 v → length (voucher_text v) ≤ 365
+reply_voucher_small : (v : VoucherFields) → IsVoucherOf kind.Reply v → length (voucher_text v) ≤ 365
 reply_voucher_small v h = omega (arith, length-append (sender_text v.sender ++ sized_text (content_text v.content)) (tags_text v.tags), length-append (sender_text v.sender) (sized_text (content_text v.content)), sized_length (content_text v.content), reply_small v.content h.same h.voucher.content, tags_small v.tags h.voucher.tags)
 
 body_small : (bodies : ℕ) (body : Option (List ℕ)) → length (option_to_list body) ≡ bodies → IfSome body (λ b. length b ≤ 32768) → length (body_text body) ≤ 1 + 32772 * bodies

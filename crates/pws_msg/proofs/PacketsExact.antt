@@ -17,6 +17,7 @@ use Rattle.pws_msg.specs.Rules.{rule_of}
 use Rattle.pws_msg.specs.Packets.{VoucherFields, PacketFields, IsSender, IsTags, IsVoucher, IsVoucherOf, IsAttachment, IsPacket, sender_text, tags_text, voucher_text, body_text}
 use Rattle.pws_msg.specs.PacketFields.{sender_at, part_at, sized_at, tags_at, voucher_at, bodies_at, packet_at}
 use Rattle.pws_msg.specs.declared.rules.AttachmentRule.{AttachmentRule}
+use Rattle.pws_msg.specs.declared.kinds.Kind.{Kind}
 use Rattle.pws_msg.specs.declared.contents.Content.{Content}
 use Rattle.pws_msg.specs.declared.contents.Content.TheVariants as content
 use Rattle.pws_msg.proofs.Ranges.{bind_ok}
@@ -75,7 +76,7 @@ sized_content_exact = record {
   complete = λ c rest at l. sized_complete content_of c rest at (λ place. content_complete c place l) (small_content c l);
 }
 
-pub sized_kind_exact : (kind : ℕ) → IsExact Content (sized_at (content_of_kind kind)) (λ c. sized_text (content_text c)) (IsContentOf kind)
+pub sized_kind_exact : (kind : Kind) → IsExact Content (sized_at (content_of_kind kind)) (λ c. sized_text (content_text c)) (IsContentOf kind)
 sized_kind_exact kind = record {
   sound = λ u v c b e. sized_sound (content_of_kind kind) (IsContentOf kind) (kind_sound kind) u v c b e;
   complete = λ c rest at l. sized_complete (content_of_kind kind) c rest at (λ place. kind_complete kind c place l) (small_content c l.1);
@@ -84,7 +85,7 @@ sized_kind_exact kind = record {
 pub tags_exact : IsExact (List (List ℕ)) tags_at tags_text IsTags
 tags_exact = exact_as IsTags (counted_exact digest_field digest_text IsDigest 0 10 digest_exact) (λ x h. record { few = h.1; each = h.2 }) (λ x h. (omega arith, h.few, h.each))
 
-pub voucher_exact : (kind : ℕ) → IsExact VoucherFields (voucher_at kind) voucher_text (IsVoucherOf kind)
+pub voucher_exact : (kind : Kind) → IsExact VoucherFields (voucher_at kind) voucher_text (IsVoucherOf kind)
 unfolding voucher_at
 voucher_exact kind = exact3 {Z = VoucherFields} (λ a b c. record { sender = a; content = b; tags = c }) voucher_text (IsVoucherOf kind) sender_exact (sized_kind_exact kind) tags_exact (λ a b c. refl) (λ a b c p q r. record { voucher = record { sender = p; content = q.1; tags = r }; same = q.0 }) (λ z h. (z.sender, z.content, z.tags, refl, h.voucher.sender, (h.same, h.voucher.content), h.voucher.tags))
 

@@ -7,7 +7,7 @@ use Rattle.std.proofs.lemmas.Grind.{common_steps, flat_map-append}
 use Rattle.pws_base.specs.Texts.{u32_text, sized_text}
 use Rattle.pws_msg.specs.Frames.{IsFramed, frame_text, frames_text, BeginsFrame, IsRest, IsStream, IsBadSize, BreaksWith, IsBroken}
 use Rattle.pws_msg.specs.Begun.{IsBegun}
-use Rattle.pws_msg.specs.Feeds.{StepsTo, CutsAt}
+use Rattle.pws_msg.specs.Pieces.{StepsTo, CutsAt}
 use Rattle.pws_msg.specs.Deframing.{Deframing, HasRead, IsRead}
 use Rattle.pws_msg.specs.declared.frames.Step.{Step}
 use Rattle.pws_msg.specs.declared.frames.Step.TheVariants as step

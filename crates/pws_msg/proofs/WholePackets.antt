@@ -13,7 +13,7 @@ use Rattle.pws_msg.specs.Contents.{content_text}
 use Rattle.pws_msg.specs.Packets.{PacketFields, IsPacket, magic, sender_text, tags_text, voucher_text, body_text, packet_text}
 use Rattle.pws_msg.specs.PacketFields.{in_packet, onward, is_magic, magic_at, version_at, packet_at, packet_of, GivesPacket}
 use Rattle.pws_msg.specs.Spelling.{Spells, SpellsSaying, IsSpelled}
-use Rattle.pws_msg.specs.Laws.{PacketsReadBack, PacketsWriteBack, ReadsWhatIsSpelled, NoTextSpellsTwo, OneSpelling}
+use Rattle.pws_msg.specs.Laws.{PacketsReadBack, PacketsWriteBack, ReadsWhatIsSpelled, NoTextSpellsTwo, EachIsSpelled, OneSpelling}
 use Rattle.pws_msg.specs.declared.errors.PacketError.{PacketError}
 use Rattle.pws_msg.specs.declared.errors.PacketFault.TheVariants as packet_fault
 use Rattle.pws_msg.specs.declared.errors.PacketReadError.{PacketReadError}
@@ -22,7 +22,6 @@ use Rattle.pws_msg.proofs.Ranges.{bind_ok, test_passed}
 use Rattle.pws_msg.proofs.Exact.{assoc5}
 use Rattle.pws_msg.proofs.FieldsExact.{byte_text, u8_exact, bytes_exact}
 use Rattle.pws_msg.proofs.EventsExact.{choose}
-use Rattle.pws_msg.proofs.ContentsExact.{spells_is, spells_by}
 use Rattle.pws_msg.proofs.PacketsExact.{fields_text, packet_sound, packet_complete}
 use Rattle.pws_msg.proofs.PacketLengths.{packet_small}
 
@@ -130,13 +129,23 @@ write_complete bytes p b e = let r = read_sound bytes p b e in (r.0, sym r.1)
 -- what is spelled, by the one spelling
 spells_packet : (p : PacketFields) (bytes : List ℕ) → Spells p bytes → IsPacket p × (bytes ≡ packet_text p)
 spells_packet p bytes (said, h) =
-    let s = spells_is p.content said h.content in (
+    let s = h.content in (
       record { sender = h.sender; receiver = h.receiver; content = s.0; tags = h.tags; attached = h.attached },
       h.text ∙ ap (λ (ys : List ℕ). magic ++ (1 ∷ []) ++ sender_text p.sender ++ (p.receiver ∷ []) ++ sized_text ys ++ tags_text p.tags ++ body_text p.body ++ counted_text voucher_text p.vouchers) s.1,
     )
 
 packet_spells : (p : PacketFields) (bytes : List ℕ) → IsPacket p → bytes ≡ packet_text p → Spells p bytes
-packet_spells p bytes h e = (content_text p.content, record { sender = h.sender; receiver = h.receiver; content = spells_by p.content (content_text p.content) h.content refl; tags = h.tags; attached = h.attached; text = e })
+packet_spells p bytes h e = (content_text p.content, record { sender = h.sender; receiver = h.receiver; content = (h.content, refl); tags = h.tags; attached = h.attached; text = e })
+
+pub each_is_spelled : EachIsSpelled
+each_is_spelled p h = packet_spells p (packet_text p) h refl
+
+-- what is written is the spelling, and short
+pub written_spells : (p : PacketFields) (bytes : List ℕ) → IsPacket p → bytes ≡ packet_text p → Spells p bytes
+written_spells p bytes h e = packet_spells p bytes h e
+
+pub written_few : (p : PacketFields) (bytes : List ℕ) → IsPacket p → bytes ≡ packet_text p → length bytes ≤ 98304
+written_few p bytes h e = rw e (packet_small p h)
 
 pub reads_spelled : ReadsWhatIsSpelled
 reads_spelled bytes p b = (λ e. let r = read_sound bytes p b e in packet_spells p bytes r.0 r.1, λ s. let r = spells_packet p bytes s in ap packet_of r.1 ∙ read_complete p r.0)

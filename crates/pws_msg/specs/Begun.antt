@@ -1,4 +1,4 @@
--- How the bytes after the last whole frame are kept; this project's own.
+-- How the bytes after the last whole frame are kept; here for the proofs alone.
 use Rattle.std.specs.Prelude.{◌≡◌, ℕ, ◌<◌, ◌≤◌, List, [], length}
 use Rattle.pws_base.specs.Texts.{u32_text}
 

@@ -2,12 +2,12 @@
 use Rattle.std.specs.Prelude.{◌≡◌, ℕ, ◌+◌, ◌<◌, ◌≤◌, ◌^◌, ◌⊎◌, List, [], ◌++◌, length, All, Option, Some, None}
 use Rattle.std.specs.List.{flat_map}
 use Rattle.pws_base.specs.Texts.{u32_text, sized_text}
-use Rattle.pws_msg.specs.Wire.{longest_packet}
+use Rattle.pws_base.specs.Limits.{max_packet}
 
 -- what a frame may hold: any 1 to 98,304 bytes
 pub record IsFramed (packet : List ℕ) : Type 0 where
   pub some : 1 ≤ length packet
-  pub few : length packet ≤ longest_packet
+  pub few : length packet ≤ max_packet
 
 -- the frame of a packet: its length in four bytes, and then the packet
 abbrev pub frame_text : List ℕ → List ℕ
@@ -36,7 +36,7 @@ pub record IsStream (bytes : List ℕ) (packets : List (List ℕ)) (rest : List 
 -- a number of four bytes that is the length of no frame
 pub record IsBadSize (size : ℕ) : Type 0 where
   pub field : size < 2 ^ 32
-  pub outside : (size ≡ 0) ⊎ (longest_packet < size)
+  pub outside : (size ≡ 0) ⊎ (max_packet < size)
 
 -- the bytes are the frames of these packets, and then, at this place, the length of no frame and any more bytes
 pub record BreaksWith (bytes : List ℕ) (packets : List (List ℕ)) (at size : ℕ) (more : List ℕ) : Type 0 where

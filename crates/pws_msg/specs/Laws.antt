@@ -2,9 +2,12 @@
 use Rattle.std.specs.Prelude.{◌≡◌, ◌↔◌, ℕ, List, ◌++◌, Ok}
 use Rattle.pws_msg.specs.Bytes.{IsBytes}
 use Rattle.pws_msg.specs.Frames.{IsStream, IsBroken}
+use Rattle.pws_msg.specs.Contents.{IsContent, content_text}
 use Rattle.pws_msg.specs.Packets.{PacketFields, IsPacket, packet_text}
 use Rattle.pws_msg.specs.PacketFields.{packet_of}
+use Rattle.pws_msg.specs.RawPackets.{raw_packet_of, raw_packet_text}
 use Rattle.pws_msg.specs.Spelling.{Spells}
+use Rattle.pws_msg.specs.declared.contents.Content.{Content}
 
 -- bytes are the stream of one list of packets and one rest
 abbrev pub StreamsAreOne : Type 0
@@ -34,6 +37,18 @@ ReadsWhatIsSpelled = (bytes : List ℕ) (p : PacketFields) → IsBytes bytes →
 abbrev pub NoTextSpellsTwo : Type 0
 NoTextSpellsTwo = (bytes : List ℕ) (p q : PacketFields) → Spells p bytes → Spells q bytes → p ≡ q
 
--- a packet is spelled by one text
+-- a packet whose fields are in range is spelled, by its one text
+abbrev pub EachIsSpelled : Type 0
+EachIsSpelled = (p : PacketFields) → IsPacket p → Spells p (packet_text p)
+
+-- a packet is spelled by at most one text
 abbrev pub OneSpelling : Type 0
 OneSpelling = (p : PacketFields) (bytes others : List ℕ) → Spells p bytes → Spells p others → bytes ≡ others
+
+-- two contents whose fields are in range have two texts
+abbrev pub ContentsDiffer : Type 0
+ContentsDiffer = (c d : Content) → IsContent c → IsContent d → content_text c ≡ content_text d → c ≡ d
+
+-- the text of a packet whose parts needn't be lawful is, for a lawful packet, its spelling
+abbrev pub LawfulIsRaw : Type 0
+LawfulIsRaw = (p : PacketFields) → raw_packet_text (raw_packet_of p) ≡ packet_text p

@@ -7,13 +7,15 @@ use Rattle.pws_msg.specs.RowFields.{counted_at}
 use Rattle.pws_msg.specs.ContentFields.{content_of, content_of_kind}
 use Rattle.pws_msg.specs.Packets.{VoucherFields, PacketFields}
 use Rattle.pws_msg.specs.Rules.{rule_of}
+use Rattle.pws_msg.specs.declared.kinds.Kind.{Kind}
 use Rattle.pws_msg.specs.declared.contents.Content.{Content}
 use Rattle.pws_msg.specs.PacketFaults.{packet_error_of}
 use Rattle.pws_msg.specs.declared.errors.PacketFault.TheVariants as packet_fault
 use Rattle.pws_msg.specs.declared.errors.PacketError.{PacketError}
 use Rattle.pws_msg.specs.declared.errors.PacketReadError.{PacketReadError}
 use Rattle.pws_msg.specs.declared.errors.PacketReadError.TheVariants as read_error
-use Rattle.pws_msg.specs.Wire.{wire_version, longest_packet, most_tags}
+use Rattle.pws_base.specs.Limits.{max_packet}
+use Rattle.pws_msg.specs.Wire.{wire_version, most_tags}
 
 -- a sender: its group, and its index
 unfoldable pub sender_at : Unread → Result (ReplicaId × Unread) FieldFault
@@ -42,7 +44,7 @@ abbrev pub tags_at : Unread → Result (List (List ℕ) × Unread) FieldFault
 tags_at u = counted_at digest_field 0 most_tags u
 
 -- a voucher whose content is to be of this kind
-unfoldable pub voucher_at : ℕ → Unread → Result (VoucherFields × Unread) FieldFault
+unfoldable pub voucher_at : Kind → Unread → Result (VoucherFields × Unread) FieldFault
 voucher_at kind u = do
   sender ← sender_at u
   c ← sized_at (content_of_kind kind) sender.1
@@ -94,7 +96,7 @@ version_at u = onward (in_packet (u8_field u)) (λ v. if v.0 == wire_version the
 -- its order
 unfoldable pub packet_of : List ℕ → Result PacketFields PacketError
 packet_of bytes =
-    if nat_lt longest_packet (length bytes) then Err (record { kind = packet_fault.Long; at = longest_packet })
+    if nat_lt max_packet (length bytes) then Err (record { kind = packet_fault.Long; at = max_packet })
     else onward (magic_at (unread bytes)) (λ m. onward (version_at m) (λ v. in_packet (packet_at v >>= ended)))
 
 -- the answer is the packet or its refusal, or the want of memory

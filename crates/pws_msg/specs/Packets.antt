@@ -5,7 +5,8 @@ use Rattle.pws_base.specs.Texts.{sized_text}
 use Rattle.pws_base.specs.declared.shapes.ReplicaId.{ReplicaId}
 use Rattle.pws_msg.specs.Rows.{IsDigest, digest_text}
 use Rattle.pws_msg.specs.StatementTexts.{counted_text}
-use Rattle.pws_msg.specs.Contents.{SpellsContent, IsContent, kind_of, content_text}
+use Rattle.pws_msg.specs.Contents.{IsContent, kind_of, content_text}
+use Rattle.pws_msg.specs.declared.kinds.Kind.{Kind}
 use Rattle.pws_msg.specs.declared.contents.Content.{Content}
 use Rattle.pws_msg.specs.declared.rules.AttachmentRule.{AttachmentRule}
 use Rattle.pws_msg.specs.Rules.{rule_of}
@@ -42,7 +43,7 @@ pub record IsVoucher (v : VoucherFields) : Type 0 where
   pub tags : IsTags v.tags
 
 -- a voucher of this kind
-pub record IsVoucherOf (kind : ℕ) (v : VoucherFields) : Type 0 where
+pub record IsVoucherOf (kind : Kind) (v : VoucherFields) : Type 0 where
   pub voucher : IsVoucher v
   pub same : kind_of v.content ≡ kind
 

@@ -5,9 +5,9 @@ use Rattle.std.specs.Prelude.{ℕ}
 abbrev pub wire_version : ℕ
 wire_version = 1
 
--- the most bytes of a packet
-abbrev pub longest_packet : ℕ
-longest_packet = 98304
+-- the longest content, in bytes: a PRE_PREPARE of the longest event
+abbrev pub longest_content : ℕ
+longest_content = 32791
 
 -- the most tags of a statement, and the most vouchers of a packet
 abbrev pub most_tags : ℕ

@@ -1,6 +1,7 @@
 //! View changes and new views, as plain records; docs/PROTOCOL.md tells what they are for.
 
-ghost use Rattle.std.specs.Prelude.{◌≡◌, IfOk};
+ghost use Rattle.std.specs.Prelude.{◌≡◌, ◌↔◌, IsTrue};
+ghost use Rattle.pws_msg.specs.Same.{same_q_row, same_view_change, same_choice, same_new_view};
 
 use pws_base::lists::{ExactCopy, Sequence};
 use pws_base::memory::Memory;
@@ -78,6 +79,132 @@ pub struct NewView {
     pub named: Sequence<Named>,
     /// What the view keeps.
     pub choice: Choice,
+}
+
+/// Whether two rows of a pre-prepared set are the same in each field.
+fn same_q_rows(one: &QRow, other: &QRow) -> bool
+    ensures { result ≡ same_q_row one.now other.now }
+{
+    one.place == other.place && one.digests.as_slice() == other.digests.as_slice()
+}
+
+impl PartialEq for QRow {
+    ghost use Rattle.std.specs.Cmp.{partial_equiv_from_equiv};
+    ghost use Rattle.pws_msg.specs.Same.{same_q_row, q_row_equiv};
+
+    ghost eq = { same_q_row };
+
+    ghost laws = { partial_equiv_from_equiv q_row_equiv };
+
+    #[tactic(auto, using(crate::proofs::SameExact::q_rows_equal))]
+    fn eq(&self, other: &QRow) -> bool
+        ensures value { result ≡ same_q_row self.now other.now }
+        ensures equal { IsTrue result ↔ (self.now ≡ other.now) }
+    {
+        same_q_rows(self, other)
+    }
+}
+
+impl Eq for QRow {
+    ghost use Rattle.pws_msg.specs.Same.{q_row_equiv};
+
+    ghost laws = { q_row_equiv };
+}
+
+/// Whether two view changes are the same in each field.
+fn same_view_changes(one: &ViewChange, other: &ViewChange) -> bool
+    ensures { result ≡ same_view_change one.now other.now }
+{
+    one.view == other.view
+        && one.low == other.low
+        && one.checkpoints.as_slice() == other.checkpoints.as_slice()
+        && one.prepared.as_slice() == other.prepared.as_slice()
+        && one.pre_prepared.as_slice() == other.pre_prepared.as_slice()
+}
+
+impl PartialEq for ViewChange {
+    ghost use Rattle.std.specs.Cmp.{partial_equiv_from_equiv};
+    ghost use Rattle.pws_msg.specs.Same.{same_view_change, view_change_equiv};
+
+    ghost eq = { same_view_change };
+
+    ghost laws = { partial_equiv_from_equiv view_change_equiv };
+
+    fn eq(&self, other: &ViewChange) -> bool
+        ensures value { result ≡ same_view_change self.now other.now }
+        ensures equal { IsTrue result ↔ (self.now ≡ other.now) }
+    {
+        same_view_changes(self, other)
+    }
+}
+
+impl Eq for ViewChange {
+    ghost use Rattle.pws_msg.specs.Same.{view_change_equiv};
+
+    ghost laws = { view_change_equiv };
+}
+
+/// Whether two choices are the same in each field.
+fn same_choices(one: &Choice, other: &Choice) -> bool
+    ensures { result ≡ same_choice one.now other.now }
+{
+    one.place == other.place
+        && one.digest == other.digest
+        && one.chosen.as_slice() == other.chosen.as_slice()
+}
+
+impl PartialEq for Choice {
+    ghost use Rattle.std.specs.Cmp.{partial_equiv_from_equiv};
+    ghost use Rattle.pws_msg.specs.Same.{same_choice, choice_equiv};
+
+    ghost eq = { same_choice };
+
+    ghost laws = { partial_equiv_from_equiv choice_equiv };
+
+    #[tactic(auto, using(crate::proofs::SameExact::choices_equal))]
+    fn eq(&self, other: &Choice) -> bool
+        ensures value { result ≡ same_choice self.now other.now }
+        ensures equal { IsTrue result ↔ (self.now ≡ other.now) }
+    {
+        same_choices(self, other)
+    }
+}
+
+impl Eq for Choice {
+    ghost use Rattle.pws_msg.specs.Same.{choice_equiv};
+
+    ghost laws = { choice_equiv };
+}
+
+/// Whether two new views are the same in each field.
+fn same_new_views(one: &NewView, other: &NewView) -> bool
+    ensures { result ≡ same_new_view one.now other.now }
+{
+    one.view == other.view
+        && one.named.as_slice() == other.named.as_slice()
+        && one.choice == other.choice
+}
+
+impl PartialEq for NewView {
+    ghost use Rattle.std.specs.Cmp.{partial_equiv_from_equiv};
+    ghost use Rattle.pws_msg.specs.Same.{same_new_view, new_view_equiv};
+
+    ghost eq = { same_new_view };
+
+    ghost laws = { partial_equiv_from_equiv new_view_equiv };
+
+    fn eq(&self, other: &NewView) -> bool
+        ensures value { result ≡ same_new_view self.now other.now }
+        ensures equal { IsTrue result ↔ (self.now ≡ other.now) }
+    {
+        same_new_views(self, other)
+    }
+}
+
+impl Eq for NewView {
+    ghost use Rattle.pws_msg.specs.Same.{new_view_equiv};
+
+    ghost laws = { new_view_equiv };
 }
 
 impl ExactCopy for Checkpoint {

@@ -5,9 +5,8 @@ ghost use Rattle.sha2.specs.Sha256.{sha256};
 ghost use Rattle.pws_msg.specs.Rows.{IsDigest};
 ghost use Rattle.pws_msg.specs.Contents.{SpellsContent, IsContent, kind_of, fields_text, content_text, content_digest_of};
 
-use crate::places::{
-    ChangeName, DecidedEvent, PlaceDigest, PlaceVote, Proposal, WantedPlace, event_is_lawful,
-};
+use crate::kinds::Kind;
+use crate::places::{ChangeName, DecidedEvent, PlaceDigest, PlaceVote, Proposal, WantedPlace};
 use crate::putting::{
     put_call_name, put_change_name, put_decided_event, put_event, put_own_reading, put_own_request,
     put_place_digest, put_place_vote, put_proposal, put_reply_note, put_wanted_place,
@@ -23,7 +22,7 @@ use sha2::{Digest as _, Sha256};
 use std::alloc::Global;
 
 /// What a packet says, by the table of contents in docs/FORMATS.md. Some bytes spell it, by its type.
-#[derive(Drop)]
+#[derive(Drop, PartialEq, Eq)]
 pub enum Content {
     /// A request (REQ) of the sender's group.
     Request(OwnRequest),
@@ -62,28 +61,28 @@ pub enum Content {
 }
 
 impl Content {
-    /// The byte of its kind, 1 to 17.
-    pub fn kind(&self) -> u8
+    /// Its kind.
+    pub fn kind(&self) -> Kind
         ensures { result ≡ kind_of self.now }
     {
         match self {
-            Content::Request(_) => 1,
-            Content::Reply(_) => 2,
-            Content::Part(_) => 3,
-            Content::Expired(_) => 4,
-            Content::Reading(_) => 5,
-            Content::PrePrepare(_) => 6,
-            Content::Prepare(_) => 7,
-            Content::Commit(_) => 8,
-            Content::Checkpoint(_) => 9,
-            Content::ViewChange(_) => 10,
-            Content::Ack(_) => 11,
-            Content::NewView(_) => 12,
-            Content::Relay(_) => 13,
-            Content::Fetch(_) => 14,
-            Content::Done(_) => 15,
-            Content::Need(_) => 16,
-            Content::Give(_) => 17,
+            Content::Request(_) => Kind::Request,
+            Content::Reply(_) => Kind::Reply,
+            Content::Part(_) => Kind::Part,
+            Content::Expired(_) => Kind::Expired,
+            Content::Reading(_) => Kind::Reading,
+            Content::PrePrepare(_) => Kind::PrePrepare,
+            Content::Prepare(_) => Kind::Prepare,
+            Content::Commit(_) => Kind::Commit,
+            Content::Checkpoint(_) => Kind::Checkpoint,
+            Content::ViewChange(_) => Kind::ViewChange,
+            Content::Ack(_) => Kind::Ack,
+            Content::NewView(_) => Kind::NewView,
+            Content::Relay(_) => Kind::Relay,
+            Content::Fetch(_) => Kind::Fetch,
+            Content::Done(_) => Kind::Done,
+            Content::Need(_) => Kind::Need,
+            Content::Give(_) => Kind::Give,
         }
     }
 
@@ -91,6 +90,7 @@ impl Content {
     pub fn is_lawful(&self)
         ensures { IsContent self.now }
     {
+        // shows: what a content holds is in range, by its type
         match self {
             Content::Request(request) => looked_at(request.number()),
             Content::Reply(reply) => looked_at(reply.number()),
@@ -108,7 +108,7 @@ impl Content {
             Content::Fetch(wanted) => looked_at(wanted.place()),
             Content::Done(decided) => looked_at(decided.place()),
             Content::Need(digest) => digest_is_lawful(digest),
-            Content::Give(event) => event_is_lawful(event),
+            Content::Give(event) => event.lawful(),
         }
     }
 }
@@ -120,6 +120,7 @@ fn looked_at(_field: u32) {}
 fn digest_is_lawful(digest: &Digest)
     ensures { IsDigest digest.now }
 {
+    // shows: the length of the array
     let _bytes = digest.as_slice();
 }
 
@@ -127,19 +128,19 @@ impl ExactCopy for Content {
     fn copy(&self, alloc: Global) -> Result<Content, Memory> {
         match self {
             Content::Request(request) => Ok(Content::Request(request.copy(alloc)?)),
-            Content::Reply(reply) => Ok(Content::Reply(reply.copy(alloc)?)),
-            Content::Part(reply) => Ok(Content::Part(reply.copy(alloc)?)),
-            Content::Expired(call) => Ok(Content::Expired(call.copy(alloc)?)),
-            Content::Reading(reading) => Ok(Content::Reading(reading.copy(alloc)?)),
+            Content::Reply(reply) => Ok(Content::Reply(*reply)),
+            Content::Part(reply) => Ok(Content::Part(*reply)),
+            Content::Expired(call) => Ok(Content::Expired(*call)),
+            Content::Reading(reading) => Ok(Content::Reading(*reading)),
             Content::PrePrepare(proposal) => Ok(Content::PrePrepare(proposal.copy(alloc)?)),
-            Content::Prepare(vote) => Ok(Content::Prepare(vote.copy(alloc)?)),
-            Content::Commit(vote) => Ok(Content::Commit(vote.copy(alloc)?)),
-            Content::Checkpoint(checkpoint) => Ok(Content::Checkpoint(checkpoint.copy(alloc)?)),
+            Content::Prepare(vote) => Ok(Content::Prepare(*vote)),
+            Content::Commit(vote) => Ok(Content::Commit(*vote)),
+            Content::Checkpoint(checkpoint) => Ok(Content::Checkpoint(*checkpoint)),
             Content::ViewChange(change) => Ok(Content::ViewChange(change.copy(alloc)?)),
-            Content::Ack(change) => Ok(Content::Ack(change.copy(alloc)?)),
+            Content::Ack(change) => Ok(Content::Ack(*change)),
             Content::NewView(new_view) => Ok(Content::NewView(new_view.copy(alloc)?)),
-            Content::Relay(change) => Ok(Content::Relay(change.copy(alloc)?)),
-            Content::Fetch(wanted) => Ok(Content::Fetch(wanted.copy(alloc)?)),
+            Content::Relay(change) => Ok(Content::Relay(*change)),
+            Content::Fetch(wanted) => Ok(Content::Fetch(*wanted)),
             Content::Done(decided) => Ok(Content::Done(decided.copy(alloc)?)),
             Content::Need(digest) => Ok(Content::Need(*digest)),
             Content::Give(event) => Ok(Content::Give(event.copy(alloc)?)),
@@ -181,9 +182,10 @@ pub fn content_bytes(alloc: Global, content: &Content) -> Result<Vec<u8>, Memory
     ensures value { IfOk result (λ bytes. bytes.items ≡ content_text content.now) }
     ensures spells { IfOk result (λ bytes. SpellsContent content.now bytes.items) }
 {
+    // shows: the content's fields are in range
     content.is_lawful();
     let mut text = Writer::new(alloc);
-    text.put_u8(content.kind())?;
+    text.put_u8(content.kind().byte())?;
     put_fields(alloc, &mut text, content)?;
     Ok(text.into_bytes().into_vec())
 }

@@ -1,8 +1,8 @@
 //! Frames: packets on a stream of bytes, each after its length.
 
-use crate::wire::LONGEST;
 use pws_base::bytes::Bytes;
-use pws_base::lists::Sequence;
+use pws_base::limits::MAX_PACKET;
+use pws_base::lists::{ExactCopy, Sequence};
 use pws_base::memory::Memory;
 use std::alloc::Global;
 use std::marker::Model;
@@ -77,8 +77,11 @@ struct Cut {
 /// The bytes after the last whole frame.
 #[derive(Drop)]
 struct Rest {
+    /// The bytes of the length so far, at most four.
     head: Vec<u8>,
+    /// The length, once it is whole; before that 0.
     size: usize,
+    /// The bytes of the packet so far, fewer than the length.
     packet: Vec<u8>,
 }
 
@@ -99,9 +102,13 @@ impl Model for Rest {
 /// met, and whether want of memory stopped it; `HasRead` ties these to all bytes fed and all packets handed out.
 #[derive(Drop)]
 pub struct Deframer {
+    /// The bytes after the last whole frame.
     rest: Rest,
+    /// How many bytes were fed.
     fed: u64,
+    /// Where a bad length stands, once one was met.
     broken: Option<u64>,
+    /// Whether memory was wanting once.
     stopped: bool,
 }
 
@@ -117,7 +124,8 @@ ghost use Rattle.std.specs.Prelude.{◌≡◌, ◌+◌, ◌^◌, ◌<◌, ◌≤
 ghost use Rattle.pws_base.specs.Texts.{u32_text};
 ghost use Rattle.pws_msg.specs.Frames.{IsRest};
 ghost use Rattle.pws_msg.specs.Deframing.{fresh, HasRead};
-ghost use Rattle.pws_msg.specs.Feeds.{ReadsOn, StepsTo, CutsAt};
+ghost use Rattle.pws_msg.specs.Feeds.{ReadsOn};
+ghost use Rattle.pws_msg.specs.Pieces.{StepsTo, CutsAt};
 
 /// The number that four bytes spell.
 #[tactic(auto, unfolding(pws_base::specs::Texts::u32_text))]
@@ -144,6 +152,7 @@ impl Rest {
     fn is_rest(&self)
         ensures { IsRest self.now }
     {
+        // shows: the invariant of its fields
         let _ = &self.head;
     }
 
@@ -185,7 +194,7 @@ impl Rest {
             });
         }
         let size = size_of(self.head.as_slice());
-        if size == 0 || LONGEST < size {
+        if size == 0 || MAX_PACKET < size {
             self.head.clear();
             return Ok(Taken {
                 count,
@@ -238,6 +247,7 @@ impl Rest {
         ensures cut { IfOk result (λ c. CutsAt c.broken self.old piece.now c.whole self.new) }
         ensures rest { IsRest self.new }
     {
+        // shows: what was kept is a rest
         self.is_rest();
         let mut whole = Sequence::new(alloc);
         let mut at = 0;
@@ -269,6 +279,7 @@ impl Deframer {
         ensures read { HasRead result [] [] }
     {
         let rest = Rest::new(alloc);
+        // shows: no bytes are a rest
         rest.is_rest();
         Deframer {
             rest,
@@ -311,6 +322,7 @@ impl Deframer {
         ensures stopped { IsTrue self.old.stopped → result ≡ Err FeedError.Memory }
         ensures held { length self.new.rest ≤ 98308 }
     {
+        // shows: what was kept is a rest, so it is short
         self.rest.is_rest();
         let before = self.fed;
         self.fed += piece.len() as u64;
@@ -337,6 +349,45 @@ impl Deframer {
                     whole: cut.whole,
                 }))
             }
+        }
+    }
+}
+
+impl ExactCopy for Rest {
+    fn copy(&self, alloc: Global) -> Result<Rest, Memory> {
+        Ok(Rest {
+            head: self.head.as_slice().to_vec(alloc)?,
+            size: self.size,
+            packet: self.packet.as_slice().to_vec(alloc)?,
+        })
+    }
+}
+
+impl ExactCopy for Deframer {
+    fn copy(&self, alloc: Global) -> Result<Deframer, Memory> {
+        Ok(Deframer {
+            rest: self.rest.copy(alloc)?,
+            fed: self.fed,
+            broken: self.broken,
+            stopped: self.stopped,
+        })
+    }
+}
+
+impl ExactCopy for FrameError {
+    fn copy(&self, alloc: Global) -> Result<FrameError, Memory> {
+        Ok(FrameError {
+            at: self.at,
+            whole: self.whole.copy(alloc)?,
+        })
+    }
+}
+
+impl ExactCopy for FeedError {
+    fn copy(&self, alloc: Global) -> Result<FeedError, Memory> {
+        match self {
+            FeedError::Frame(error) => Ok(FeedError::Frame(error.copy(alloc)?)),
+            FeedError::Memory => Ok(FeedError::Memory),
         }
     }
 }

@@ -14,12 +14,14 @@ ghost use Rattle.pws_msg.specs.PacketFields.{sender_at, part_at, sized_at, tags_
 use crate::content_reading::{take_content, take_content_of_kind};
 use crate::contents::Content;
 use crate::errors::{PacketError, PacketFault, PacketReadError};
+use crate::kinds::Kind;
 use crate::packets::{Packet, Voucher};
 use crate::rows::take_counted;
 use crate::rules::{AttachmentRule, attachment_rule};
-use crate::wire::{LONGEST, MOST_TAGS, VERSION};
+use crate::wire::{MOST_TAGS, VERSION};
 use pws_base::bytes::Bytes;
 use pws_base::fields::{FieldError, FieldFault, FieldReader};
+use pws_base::limits::MAX_PACKET;
 use pws_base::lists::Sequence;
 use pws_base::shapes::{ReplicaId, Tag};
 use std::alloc::Global;
@@ -59,7 +61,7 @@ fn take_sized_content(alloc: Global, fields: &mut FieldReader<'_>) -> Result<Con
 #[tactic(auto, unfolding(crate::specs::PacketFields::sized_at))]
 fn take_sized_content_of_kind(
     alloc: Global,
-    kind: u8,
+    kind: Kind,
     fields: &mut FieldReader<'_>,
 ) -> Result<Content, FieldError>
     ensures read { GivesOrMemory (λ c. c) result fields.new (sized_at (content_of_kind kind) fields.old) }
@@ -81,7 +83,7 @@ fn take_tags(alloc: Global, fields: &mut FieldReader<'_>) -> Result<Sequence<Tag
 #[tactic(auto, unfolding(crate::specs::PacketFields::voucher_at))]
 fn take_voucher(
     alloc: Global,
-    kind: u8,
+    kind: Kind,
     fields: &mut FieldReader<'_>,
 ) -> Result<Voucher, FieldError>
     ensures read { GivesOrMemory (λ v. v) result fields.new (voucher_at kind fields.old) }
@@ -96,7 +98,7 @@ fn take_voucher(
 /// Reads vouchers, whose contents are to be of this kind, one after the other.
 fn take_vouchers(
     alloc: Global,
-    kind: u8,
+    kind: Kind,
     fields: &mut FieldReader<'_>,
     count: u8,
 ) -> Result<Sequence<Voucher>, FieldError>
@@ -188,7 +190,7 @@ fn take_packet(alloc: Global, fields: &mut FieldReader<'_>) -> Result<Packet, Fi
     let receiver = fields.take_group()?;
     let content = take_sized_content(alloc, fields)?;
     let tags = take_tags(alloc, fields)?;
-    let rule = attachment_rule(&content);
+    let rule = attachment_rule(content.kind());
     let body = take_body(alloc, rule.bodies, fields)?;
     let vouchers = take_counted_vouchers(alloc, rule, fields)?;
     Ok(Packet::new(sender, receiver, content, tags, body, vouchers))
@@ -199,10 +201,10 @@ fn take_packet(alloc: Global, fields: &mut FieldReader<'_>) -> Result<Packet, Fi
 fn take_whole(alloc: Global, bytes: &[u8]) -> Result<Packet, PacketReadError>
     ensures { GivesPacket result (packet_of bytes.now) }
 {
-    if bytes.len() > LONGEST {
+    if bytes.len() > MAX_PACKET {
         return Err(PacketReadError::Refused(PacketError {
             kind: PacketFault::Long,
-            at: LONGEST,
+            at: MAX_PACKET,
         }));
     }
     let mut fields = FieldReader::new(bytes);
@@ -231,6 +233,7 @@ pub fn read_packet(alloc: Global, bytes: &[u8]) -> Result<Packet, PacketReadErro
     ensures value { GivesPacket result (packet_of bytes.now) }
     ensures spells { IsSpelled bytes.now result }
 {
+    // shows: each byte is below 256
     are_bytes(bytes);
     take_whole(alloc, bytes)
 }

@@ -16,7 +16,7 @@ use std::alloc::Global;
 use std::marker::Model;
 
 /// Each tag has 32 bytes, by its type.
-fn tags_are_whole(tags: &[Tag])
+pub(crate) fn tags_are_whole(tags: &[Tag])
     ensures { All IsDigest tags.now }
 {}
 
@@ -25,9 +25,23 @@ fn tags_are_whole(tags: &[Tag])
 /// The sender's group is 0 to 15 and its index 0 to 9; there are at most 10 tags.
 #[derive(Drop)]
 pub struct Voucher {
+    /// Who said it.
     sender: ReplicaId,
+    /// What was said.
     content: Content,
+    /// The tags, by the index of the replica that each is for.
     tags: Sequence<Tag>,
+}
+
+/// The parts of a voucher, as its own.
+#[derive(Drop)]
+pub struct VoucherParts {
+    /// Who said it.
+    pub sender: ReplicaId,
+    /// What was said.
+    pub content: Content,
+    /// The tags, by the index of the replica that each is for.
+    pub tags: Sequence<Tag>,
 }
 
 impl Model for Voucher {
@@ -47,6 +61,7 @@ impl Voucher {
         requires tags { length tags ≤ 10 }
         ensures { result ≡ record { sender = sender; content = content; tags = tags } }
     {
+        // shows: the parts are in range, by their types
         content.is_lawful();
         tags_are_whole(tags.as_slice());
         Voucher {
@@ -79,6 +94,33 @@ impl Voucher {
     {
         self.tags.as_slice()
     }
+
+    /// Its parts, which aren't copied.
+    pub fn into_parts(self) -> VoucherParts
+        ensures value { result ≡ record { sender = self.sender; content = self.content; tags = self.tags } }
+        ensures lawful { IsVoucher self }
+    {
+        let Voucher {
+            sender,
+            content,
+            tags,
+        } = self;
+        VoucherParts {
+            sender,
+            content,
+            tags,
+        }
+    }
+}
+
+impl ExactCopy for VoucherParts {
+    fn copy(&self, alloc: Global) -> Result<VoucherParts, Memory> {
+        Ok(VoucherParts {
+            sender: self.sender,
+            content: self.content.copy(alloc)?,
+            tags: self.tags.copy(alloc)?,
+        })
+    }
 }
 
 impl ExactCopy for Voucher {
@@ -96,6 +138,7 @@ fn vouchers_are_lawful(vouchers: &[Voucher])
     ensures { All IsVoucher vouchers.now }
 {
     for voucher in vouchers.iter() {
+        // shows: a voucher's parts are in range
         let _sender = voucher.sender();
     }
 }
@@ -107,22 +150,34 @@ fn vouchers_are_lawful(vouchers: &[Voucher])
 /// REPLY; in a RELAY one, a VIEW_CHANGE; in all others nothing.
 #[derive(Drop)]
 pub struct Packet {
+    /// Who sends it.
     sender: ReplicaId,
+    /// The group that it is for.
     receiver: GroupId,
+    /// What it says.
     content: Content,
+    /// The tags, by the index of the replica that each is for.
     tags: Sequence<Tag>,
+    /// The body, there exactly in a REPLY.
     body: Option<Bytes>,
+    /// The vouchers, as the content's kind has them.
     vouchers: Sequence<Voucher>,
 }
 
 /// The parts of a packet, as its own.
 #[derive(Drop)]
 pub struct PacketParts {
+    /// Who sends it.
     pub sender: ReplicaId,
+    /// The group that it is for.
     pub receiver: GroupId,
+    /// What it says.
     pub content: Content,
+    /// The tags, by the index of the replica that each is for.
     pub tags: Sequence<Tag>,
+    /// The body.
     pub body: Option<Bytes>,
+    /// The vouchers.
     pub vouchers: Sequence<Voucher>,
 }
 
@@ -153,6 +208,7 @@ impl Packet {
         requires attached { Fits (rule_of content) body vouchers }
         ensures { result ≡ record { sender = sender; receiver = receiver; content = content; tags = tags; body = body; vouchers = vouchers } }
     {
+        // shows: the parts are in range, by their types
         content.is_lawful();
         tags_are_whole(tags.as_slice());
         vouchers_are_lawful(vouchers.as_slice());
@@ -244,6 +300,19 @@ fn copy_body(alloc: Global, body: &Option<Bytes>) -> Result<Option<Bytes>, Memor
     match body {
         None => Ok(None),
         Some(body) => Ok(Some(body.copy(alloc)?)),
+    }
+}
+
+impl ExactCopy for PacketParts {
+    fn copy(&self, alloc: Global) -> Result<PacketParts, Memory> {
+        Ok(PacketParts {
+            sender: self.sender,
+            receiver: self.receiver,
+            content: self.content.copy(alloc)?,
+            tags: self.tags.copy(alloc)?,
+            body: copy_body(alloc, &self.body)?,
+            vouchers: self.vouchers.copy(alloc)?,
+        })
     }
 }
 

@@ -1,7 +1,6 @@
 //! What is said of places and of view changes.
 
 ghost use Rattle.std.specs.Prelude.{◌≡◌, ◌≤◌};
-ghost use Rattle.pws_event.specs.Events.{IsEvent};
 ghost use Rattle.pws_msg.specs.Statements.{IsProposal, IsPlaceVote, IsPlaceDigest, IsChangeName, IsWantedPlace, IsDecidedEvent};
 
 use pws_base::lists::ExactCopy;
@@ -11,35 +10,14 @@ use pws_event::events::Event;
 use std::alloc::Global;
 use std::marker::Model;
 
-/// The fields of an event are in range, by its type.
-pub fn event_is_lawful(event: &Event)
-    ensures { IsEvent event.now }
-{
-    match event {
-        Event::Null => {}
-        Event::Request(request) => {
-            let _ = request.number();
-        }
-        Event::Reply(reply) => {
-            let _ = reply.number();
-        }
-        Event::Abort(abort) => {
-            let _ = abort.number();
-        }
-        Event::Clock(clock) => {
-            let _ = clock.ask();
-        }
-        Event::Random(random) => {
-            let _ = random.ask();
-        }
-    }
-}
-
 /// An event that is to stand at a place, as the primary of a view proposes it.
-#[derive(Debug, Drop)]
+#[derive(Debug, Drop, PartialEq, Eq)]
 pub struct Proposal {
+    /// The view.
     view: View,
+    /// The place.
     place: Place,
+    /// The event that is to stand there.
     event: Event,
 }
 
@@ -51,6 +29,8 @@ impl Model for Proposal {
     ghost view = { λ p. record { view = p.view; place = p.place; event = p.event } };
 
     ghost invariant = { λ p. IsProposal (record { view = p.view; place = p.place; event = p.event }) };
+
+    ghost inverse = { λ p. record { view = p.view; place = p.place; event = p.event } };
 }
 
 impl Proposal {
@@ -61,7 +41,8 @@ impl Proposal {
         requires place_to { place ≤ 1000000 }
         ensures { result ≡ record { view = view; place = place; event = event } }
     {
-        event_is_lawful(&event);
+        // shows: the event's fields are in range
+        event.lawful();
         Proposal { view, place, event }
     }
 
@@ -88,6 +69,15 @@ impl Proposal {
     {
         &self.event
     }
+
+    /// The event, which isn't copied.
+    pub fn into_event(self) -> Event
+        ensures value { result ≡ self.event }
+        ensures lawful { IsProposal self }
+    {
+        let Proposal { event, .. } = self;
+        event
+    }
 }
 
 impl ExactCopy for Proposal {
@@ -101,10 +91,13 @@ impl ExactCopy for Proposal {
 }
 
 /// A vote of a view for the event that has a digest to stand at a place.
-#[derive(Debug, Drop)]
+#[derive(Clone, Copy, Debug, PartialEq, Eq)]
 pub struct PlaceVote {
+    /// The view.
     view: View,
+    /// The place.
     place: Place,
+    /// The digest of the event.
     digest: Digest,
 }
 
@@ -116,6 +109,8 @@ impl Model for PlaceVote {
     ghost view = { λ v. record { view = v.view; place = v.place; digest = v.digest } };
 
     ghost invariant = { λ v. IsPlaceVote (record { view = v.view; place = v.place; digest = v.digest }) };
+
+    ghost inverse = { λ v. record { view = v.view; place = v.place; digest = v.digest } };
 }
 
 impl PlaceVote {
@@ -160,18 +155,16 @@ impl PlaceVote {
 
 impl ExactCopy for PlaceVote {
     fn copy(&self, _alloc: Global) -> Result<PlaceVote, Memory> {
-        Ok(PlaceVote {
-            view: self.view,
-            place: self.place,
-            digest: self.digest,
-        })
+        Ok(*self)
     }
 }
 
 /// A place, with the digest that stands for all up to it.
-#[derive(Debug, Drop)]
+#[derive(Clone, Copy, Debug, PartialEq, Eq)]
 pub struct PlaceDigest {
+    /// The place.
     place: Place,
+    /// The digest that stands for all up to it.
     digest: Digest,
 }
 
@@ -183,6 +176,8 @@ impl Model for PlaceDigest {
     ghost view = { λ d. record { place = d.place; digest = d.digest } };
 
     ghost invariant = { λ d. IsPlaceDigest (record { place = d.place; digest = d.digest }) };
+
+    ghost inverse = { λ d. record { place = d.place; digest = d.digest } };
 }
 
 impl PlaceDigest {
@@ -214,18 +209,18 @@ impl PlaceDigest {
 
 impl ExactCopy for PlaceDigest {
     fn copy(&self, _alloc: Global) -> Result<PlaceDigest, Memory> {
-        Ok(PlaceDigest {
-            place: self.place,
-            digest: self.digest,
-        })
+        Ok(*self)
     }
 }
 
 /// A view change, named by its view, its sender's index and the digest of its content.
-#[derive(Debug, Drop)]
+#[derive(Clone, Copy, Debug, PartialEq, Eq)]
 pub struct ChangeName {
+    /// The view that the change moves to.
     view: View,
+    /// The index of its sender.
     index: u8,
+    /// The digest of its content.
     digest: Digest,
 }
 
@@ -237,6 +232,8 @@ impl Model for ChangeName {
     ghost view = { λ n. record { view = n.view; index = n.index; digest = n.digest } };
 
     ghost invariant = { λ n. IsChangeName (record { view = n.view; index = n.index; digest = n.digest }) };
+
+    ghost inverse = { λ n. record { view = n.view; index = n.index; digest = n.digest } };
 }
 
 impl ChangeName {
@@ -280,17 +277,14 @@ impl ChangeName {
 
 impl ExactCopy for ChangeName {
     fn copy(&self, _alloc: Global) -> Result<ChangeName, Memory> {
-        Ok(ChangeName {
-            view: self.view,
-            index: self.index,
-            digest: self.digest,
-        })
+        Ok(*self)
     }
 }
 
 /// A place whose event is wanted.
-#[derive(Debug, Drop)]
+#[derive(Clone, Copy, Debug, PartialEq, Eq)]
 pub struct WantedPlace {
+    /// The place.
     place: Place,
 }
 
@@ -302,6 +296,8 @@ impl Model for WantedPlace {
     ghost view = { λ w. record { place = w.place } };
 
     ghost invariant = { λ w. IsWantedPlace (record { place = w.place }) };
+
+    ghost inverse = { λ w. record { place = w.place } };
 }
 
 impl WantedPlace {
@@ -325,14 +321,16 @@ impl WantedPlace {
 
 impl ExactCopy for WantedPlace {
     fn copy(&self, _alloc: Global) -> Result<WantedPlace, Memory> {
-        Ok(WantedPlace { place: self.place })
+        Ok(*self)
     }
 }
 
 /// The event that stands at a place.
-#[derive(Debug, Drop)]
+#[derive(Debug, Drop, PartialEq, Eq)]
 pub struct DecidedEvent {
+    /// The place.
     place: Place,
+    /// The event that stands there.
     event: Event,
 }
 
@@ -344,6 +342,8 @@ impl Model for DecidedEvent {
     ghost view = { λ d. record { place = d.place; event = d.event } };
 
     ghost invariant = { λ d. IsDecidedEvent (record { place = d.place; event = d.event }) };
+
+    ghost inverse = { λ d. record { place = d.place; event = d.event } };
 }
 
 impl DecidedEvent {
@@ -353,7 +353,8 @@ impl DecidedEvent {
         requires place_to { place ≤ 1000000 }
         ensures { result ≡ record { place = place; event = event } }
     {
-        event_is_lawful(&event);
+        // shows: the event's fields are in range
+        event.lawful();
         DecidedEvent { place, event }
     }
 
@@ -371,6 +372,15 @@ impl DecidedEvent {
         ensures lawful { IsDecidedEvent self.now }
     {
         &self.event
+    }
+
+    /// The event, which isn't copied.
+    pub fn into_event(self) -> Event
+        ensures value { result ≡ self.event }
+        ensures lawful { IsDecidedEvent self }
+    {
+        let DecidedEvent { event, .. } = self;
+        event
     }
 }
 

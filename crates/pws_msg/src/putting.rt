@@ -1,6 +1,6 @@
 //! Writing statements, field by field.
 
-ghost use Rattle.std.specs.Prelude.{◌≡◌, ◌≤◌, ◌++◌, length, OnOk};
+ghost use Rattle.std.specs.Prelude.{◌≡◌, ◌<◌, ◌^◌, ◌++◌, length, OnOk};
 ghost use Rattle.pws_base.specs.Texts.{sized_text};
 ghost use Rattle.pws_event.specs.Events.{event_text};
 ghost use Rattle.pws_msg.specs.StatementTexts.{reading_value_text, own_request_text, reply_note_text, call_name_text, own_reading_text, proposal_text, place_vote_text, place_digest_text, change_name_text, wanted_place_text, decided_event_text};
@@ -15,7 +15,7 @@ use std::alloc::Global;
 
 /// Writes bytes after their length.
 pub fn put_sized(text: &mut Writer, bytes: &[u8]) -> Result<(), Memory>
-    requires { length bytes.now ≤ 98304 }
+    requires { length bytes.now < 2 ^ 32 }
     ensures { OnOk result (text.new ≡ text.old ++ sized_text bytes.now) }
 {
     text.put_u32(bytes.len() as u32)?;

@@ -20,8 +20,9 @@ use std::marker::Model;
 ///
 /// The view, the low mark and the places of checkpoints are 0 to 1,000,000, the places of rows 1 to 1,000,000. There
 /// are 1 to 3 checkpoints and at most 32 rows of each set, and a row of the second has 1 to 16 digests.
-#[derive(Drop)]
+#[derive(Drop, PartialEq, Eq)]
 pub struct LawfulViewChange {
+    /// The view change.
     change: ViewChange,
 }
 
@@ -34,6 +35,8 @@ impl Model for LawfulViewChange {
     ghost view = { λ c. c.change };
 
     ghost invariant = { λ c. IsViewChange c.change };
+
+    ghost inverse = { λ c. record { change = c } };
 }
 
 impl LawfulViewChange {
@@ -52,6 +55,15 @@ impl LawfulViewChange {
     {
         &self.change
     }
+
+    /// The view change, which isn't copied.
+    pub fn into_change(self) -> ViewChange
+        ensures value { result ≡ self }
+        ensures lawful { IsViewChange self }
+    {
+        let LawfulViewChange { change } = self;
+        change
+    }
 }
 
 impl ExactCopy for LawfulViewChange {
@@ -64,7 +76,7 @@ impl ExactCopy for LawfulViewChange {
 
 /// Reads a view change.
 #[tactic(auto, unfolding(crate::specs::StatementFields::view_change_at), using(crate::proofs::Ranges::u32_range))]
-pub fn take_view_change(
+pub(crate) fn take_view_change(
     alloc: Global,
     fields: &mut FieldReader<'_>,
 ) -> Result<LawfulViewChange, FieldError>
@@ -85,7 +97,7 @@ pub fn take_view_change(
 }
 
 /// Writes a view change.
-pub fn put_view_change(text: &mut Writer, lawful: &LawfulViewChange) -> Result<(), Memory>
+pub(crate) fn put_view_change(text: &mut Writer, lawful: &LawfulViewChange) -> Result<(), Memory>
     ensures { OnOk result (text.new ≡ text.old ++ view_change_text lawful.now) }
 {
     let change = lawful.change();
@@ -100,8 +112,9 @@ pub fn put_view_change(text: &mut Writer, lawful: &LawfulViewChange) -> Result<(
 ///
 /// The view and the place are 0 to 1,000,000. It names 1 to 10 view changes, by indices 0 to 9, and has at most 32
 /// chosen digests.
-#[derive(Drop)]
+#[derive(Drop, PartialEq, Eq)]
 pub struct LawfulNewView {
+    /// The new view.
     new_view: NewView,
 }
 
@@ -114,6 +127,8 @@ impl Model for LawfulNewView {
     ghost view = { λ v. v.new_view };
 
     ghost invariant = { λ v. IsNewView v.new_view };
+
+    ghost inverse = { λ v. record { new_view = v } };
 }
 
 impl LawfulNewView {
@@ -132,6 +147,15 @@ impl LawfulNewView {
     {
         &self.new_view
     }
+
+    /// The new view, which isn't copied.
+    pub fn into_new_view(self) -> NewView
+        ensures value { result ≡ self }
+        ensures lawful { IsNewView self }
+    {
+        let LawfulNewView { new_view } = self;
+        new_view
+    }
 }
 
 impl ExactCopy for LawfulNewView {
@@ -144,7 +168,7 @@ impl ExactCopy for LawfulNewView {
 
 /// Reads a new view.
 #[tactic(auto, unfolding(crate::specs::StatementFields::new_view_at), using(crate::proofs::Ranges::u32_range))]
-pub fn take_new_view(
+pub(crate) fn take_new_view(
     alloc: Global,
     fields: &mut FieldReader<'_>,
 ) -> Result<LawfulNewView, FieldError>
@@ -167,7 +191,7 @@ pub fn take_new_view(
 }
 
 /// Writes a new view.
-pub fn put_new_view(text: &mut Writer, lawful: &LawfulNewView) -> Result<(), Memory>
+pub(crate) fn put_new_view(text: &mut Writer, lawful: &LawfulNewView) -> Result<(), Memory>
     ensures { OnOk result (text.new ≡ text.old ++ new_view_text lawful.now) }
 {
     let new_view = lawful.new_view();

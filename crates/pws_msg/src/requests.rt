@@ -8,14 +8,18 @@ use pws_base::bytes::Bytes;
 use pws_base::lists::ExactCopy;
 use pws_base::memory::Memory;
 use pws_base::shapes::{Digest, GroupId, Number};
+use pws_event::requests::Request;
 use std::alloc::Global;
 use std::marker::Model;
 
 /// A request of the sender's own group.
-#[derive(Debug, Drop)]
+#[derive(Debug, Drop, PartialEq, Eq)]
 pub struct OwnRequest {
+    /// The number among the requests to the receiver's group.
     number: Number,
+    /// The least number whose answer the group's service hasn't taken.
     low: Number,
+    /// The body, at most 32,768 bytes.
     body: Bytes,
 }
 
@@ -27,6 +31,8 @@ impl Model for OwnRequest {
     ghost view = { λ r. record { number = r.number; low = r.low; body = r.body } };
 
     ghost invariant = { λ r. IsOwnRequest (record { number = r.number; low = r.low; body = r.body }) };
+
+    ghost inverse = { λ r. record { number = r.number; low = r.low; body = r.body } };
 }
 
 impl OwnRequest {
@@ -65,6 +71,24 @@ impl OwnRequest {
     {
         self.body.as_slice()
     }
+
+    /// The body, which isn't copied.
+    pub fn into_body(self) -> Bytes
+        ensures value { result ≡ self.body }
+        ensures lawful { IsOwnRequest self }
+    {
+        let OwnRequest { body, .. } = self;
+        body
+    }
+
+    /// The request as an event's, of this caller, which is to be 0 to 15; nothing is copied.
+    pub fn into_request(self, caller: GroupId) -> Request
+        requires { caller ≤ 15 }
+        ensures { result ≡ record { caller = caller; number = self.number; low = self.low; body = self.body } }
+    {
+        let OwnRequest { number, low, body } = self;
+        Request::new(caller, number, low, body)
+    }
 }
 
 impl ExactCopy for OwnRequest {
@@ -78,10 +102,13 @@ impl ExactCopy for OwnRequest {
 }
 
 /// A reply, named by its caller and number, with the digest of its body.
-#[derive(Debug, Drop)]
+#[derive(Clone, Copy, Debug, PartialEq, Eq)]
 pub struct ReplyNote {
+    /// The group that called.
     caller: GroupId,
+    /// The number of the call.
     number: Number,
+    /// The digest of the reply's body.
     digest: Digest,
 }
 
@@ -93,6 +120,8 @@ impl Model for ReplyNote {
     ghost view = { λ r. record { caller = r.caller; number = r.number; digest = r.digest } };
 
     ghost invariant = { λ r. IsReplyNote (record { caller = r.caller; number = r.number; digest = r.digest }) };
+
+    ghost inverse = { λ r. record { caller = r.caller; number = r.number; digest = r.digest } };
 }
 
 impl ReplyNote {
@@ -137,18 +166,16 @@ impl ReplyNote {
 
 impl ExactCopy for ReplyNote {
     fn copy(&self, _alloc: Global) -> Result<ReplyNote, Memory> {
-        Ok(ReplyNote {
-            caller: self.caller,
-            number: self.number,
-            digest: self.digest,
-        })
+        Ok(*self)
     }
 }
 
 /// A call of the sender's own group, named by the called group and number.
-#[derive(Debug, Drop)]
+#[derive(Clone, Copy, Debug, PartialEq, Eq)]
 pub struct CallName {
+    /// The group that was called.
     called: GroupId,
+    /// The number of the call.
     number: Number,
 }
 
@@ -160,6 +187,8 @@ impl Model for CallName {
     ghost view = { λ n. record { called = n.called; number = n.number } };
 
     ghost invariant = { λ n. IsCallName (record { called = n.called; number = n.number }) };
+
+    ghost inverse = { λ n. record { called = n.called; number = n.number } };
 }
 
 impl CallName {
@@ -192,17 +221,16 @@ impl CallName {
 
 impl ExactCopy for CallName {
     fn copy(&self, _alloc: Global) -> Result<CallName, Memory> {
-        Ok(CallName {
-            called: self.called,
-            number: self.number,
-        })
+        Ok(*self)
     }
 }
 
 /// What a replica gives where its group's service asks for the time or for a seed.
-#[derive(Debug, Drop)]
+#[derive(Clone, Copy, Debug, PartialEq, Eq)]
 pub struct OwnReading {
+    /// The ask that is answered.
     ask: u32,
+    /// What the replica gives.
     value: ReadingValue,
 }
 
@@ -214,6 +242,8 @@ impl Model for OwnReading {
     ghost view = { λ r. record { ask = r.ask; value = r.value } };
 
     ghost invariant = { λ r. IsOwnReading (record { ask = r.ask; value = r.value }) };
+
+    ghost inverse = { λ r. record { ask = r.ask; value = r.value } };
 }
 
 impl OwnReading {
@@ -223,6 +253,7 @@ impl OwnReading {
         requires ask_to { ask ≤ 1000000 }
         ensures { result ≡ record { ask = ask; value = value } }
     {
+        // shows: a share has 32 bytes
         value.is_lawful();
         OwnReading { ask, value }
     }
@@ -246,9 +277,6 @@ impl OwnReading {
 
 impl ExactCopy for OwnReading {
     fn copy(&self, _alloc: Global) -> Result<OwnReading, Memory> {
-        Ok(OwnReading {
-            ask: self.ask,
-            value: self.value,
-        })
+        Ok(*self)
     }
 }

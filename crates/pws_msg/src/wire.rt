@@ -3,8 +3,8 @@
 /// The version byte.
 pub const VERSION: u8 = 1;
 
-/// The most bytes of a packet.
-pub const LONGEST: usize = 98_304;
+/// The longest content, in bytes: a PRE_PREPARE of the longest event.
+pub const LONGEST_CONTENT: usize = 32_791;
 
 /// The most tags of a statement, one for each replica of a group.
 pub const MOST_TAGS: u8 = 10;

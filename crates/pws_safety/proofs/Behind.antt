@@ -17,7 +17,7 @@ use Rattle.pws_safety.specs.Statements.{Group, Sent, Told, IsCorrect, size, prim
 use Rattle.pws_safety.specs.Voters.{IsHeard, IsHad}
 use Rattle.pws_safety.specs.Kept.{IsBehind}
 use Rattle.pws_safety.specs.Runs.{NoCollision}
-use Rattle.pws_safety.proofs.Members.{nowhere, here, there, first_or_rest, all_has, count_some}
+use Rattle.pws_base.proofs.Members.{nowhere, here, there, first_or_rest, all_has, count_some}
 use Rattle.pws_safety.proofs.Counted.{count_apart, count_more, count_insert, some_passes, at_least_weaker}
 
 -- the names of a list, and whether they rise

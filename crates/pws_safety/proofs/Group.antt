@@ -1,5 +1,5 @@
 -- The invariant of a group: it holds at the start, each step keeps it, and it gives the facts.
-use Rattle.std.proofs.Common.{ℕ, ◌+◌, ◌*◌, ◌<◌, ◌≡◌, inl, inr, true, false, Bool, refl, sym, ap, ◌∙◌, subst, List, [], ◌∷◌, Option, None, ◌==◌, max, arith}
+use Rattle.std.proofs.Common.{ℕ, ◌+◌, ◌*◌, ◌<◌, ◌≡◌, inl, inr, true, false, Bool, refl, sym, ap, ◌∙◌, subst, List, [], ◌∷◌, ◌++◌, Option, None, ◌==◌, max, arith}
 use Rattle.std.specs.List.{Contains}
 use Rattle.std.proofs.lemmas.Bool.{cases_eq, eq-eqb, ne_eqb, cond-true, cond-false}
 use Rattle.pws_msg.specs.declared.changes.Named.{Named}
@@ -14,12 +14,12 @@ use Rattle.pws_safety.specs.Statements.{Group, Sent, Told, Gives, StandsBy, Stan
 use Rattle.pws_safety.specs.Voters.{Slot, Core, new_core, AcceptsChosen, PreparesChosen, IsHeard, report_of, Step, propose, accept, prepare, commit, lower, move, ack, offer, enter}
 use Rattle.pws_safety.specs.Kept.{Stood, TellsTrue, HasGrounds, HasReason, Keeps, GroupKeeps}
 use Rattle.pws_safety.specs.Facts.{OneVoicePerView, CommitHasQuorum, ReportsItsCommits, StandsOnAChoice}
-use Rattle.pws_safety.specs.Runs.{Reached, start, step, again, IsTrusted, with_core}
-use Rattle.pws_safety.specs.Agreement.{RepeatsKeep, MoreIsKept, HadIsBehind, CommittedIsSettled, SlotsKeepTheChoice, StepsKeep, KeptGivesFacts, RunsKeep}
-use Rattle.pws_safety.proofs.Members.{nowhere, here, first_or_rest}
+use Rattle.pws_safety.specs.Runs.{Reached, start, step, again, IsTrusted, said_by, with_core}
+use Rattle.pws_safety.specs.Agreement.{RepeatsKeep, MoreIsKept, HadIsBehind, CommittedIsSettled, SlotsKeepTheChoice, StepsKeep, StepsKeepSaid, KeptGivesFacts, RunsKeep}
+use Rattle.pws_base.proofs.Members.{nowhere, here, first_or_rest}
 use Rattle.pws_safety.proofs.Counted.{at_least_weaker}
 use Rattle.pws_safety.proofs.Slots.{none_some, no_start, prepare_pledge, propose_pledge}
-use Rattle.pws_safety.proofs.Next.{linked_step}
+use Rattle.pws_safety.proofs.Next.{linked_step, sends_next}
 use Rattle.pws_safety.proofs.Keeping.{kept_accept, kept_prepare, kept_commit, kept_lower, kept_move, kept_ack, Enters, kept_enter}
 use Rattle.pws_safety.proofs.Views.{quorum_settles}
 use Rattle.pws_safety.proofs.Behind.{named_from, behind_view, behind_heard, behind_had}
@@ -285,6 +285,10 @@ steps_keep g cores before after i s trusted kept ci t sends =
       said = linked.said;
       only_said = linked.only_said;
     }
+
+pub steps_keep_said : StepsKeepSaid
+steps_keep_said g cores sent i s xs trusted kept ci t e =
+    steps_keep g cores sent (said_by i xs ++ sent) i s trusted kept ci t (sends_next g cores sent i s xs (record { said = kept.said; only_said = kept.only_said }) ci e)
 
 -- each fact from the invariant
 module _ (g : Group) (cores : ℕ → Core) (sent : Sent) (kept : GroupKeeps g cores sent) where

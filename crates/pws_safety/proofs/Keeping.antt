@@ -17,7 +17,7 @@ use Rattle.pws_safety.specs.Statement as say
 use Rattle.pws_safety.specs.Statements.{Group, Sent, Told, Gives, StandsBy, Backs, size, primary}
 use Rattle.pws_safety.specs.Voters.{Slot, Core, accepted, with_slot, after_accept, after_prepare, after_commit, after_lower, report_of, after_move, after_enter, IsTrimmed, IsNoted, IsHeard}
 use Rattle.pws_safety.specs.Kept.{Stood, TellsTrue, HasGrounds, HasReason, IsChosenIn, IsFreshIn, Keeps}
-use Rattle.pws_safety.proofs.Members.{here, there, first_or_rest}
+use Rattle.pws_base.proofs.Members.{here, there, first_or_rest}
 use Rattle.pws_safety.proofs.Slots.{some_same, none_some, no_start, slot_here, slot_other, each_slot, above_is, above_kept, with_one, stood_split, stood_more, stands_view, Pledge, commit_old, change_old, ack_old, new_old, tells_more}
 
 start_same : (a b : NewView) → ◌≡◌ {A = Option NewView} (Some a) (Some b) → a ≡ b

@@ -1,4 +1,3 @@
-pub mod Members
 pub mod Counted
 pub mod Senders
 pub mod Views

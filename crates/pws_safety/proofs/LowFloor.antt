@@ -28,7 +28,7 @@ use Rattle.pws_safety.specs.Runs.{IsTrusted, with_core}
 use Rattle.pws_safety.specs.Witnesses.{example_digest, first_checkpoint, same_change}
 use Rattle.pws_safety.specs.Counterexamples.{ReachedWith, Misleads, CheckpointFloor, CanAccept, AcceptsAllItCan}
 use Rattle.pws_safety.specs.Counterexamples as rule
-use Rattle.pws_safety.proofs.Members.{nowhere}
+use Rattle.pws_base.proofs.Members.{nowhere}
 use Rattle.pws_safety.proofs.Slots.{none_some, slot_here, each_slot, above_is}
 use Rattle.pws_safety.proofs.FirstRun.{two_have, three_have, change_same}
 use Rattle.pws_safety.proofs.Reports.{only_item, each_three, one_checkpoint, starts_at, one_row, HasNoLater, is_best, only_slot, prepared_one, prepared_at, pre_prepared_at, noted_at, chosen_slot, accepts_at, prepares_at, no_slots, accepts_none, heard_is_had}

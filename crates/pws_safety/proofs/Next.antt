@@ -6,15 +6,12 @@ use Rattle.std.proofs.lemmas.List.Elements.{Contains-append_left, Contains-appen
 use Rattle.pws_safety.specs.Statement.{Statement}
 use Rattle.pws_safety.specs.Statements.{Group, Sent, IsCorrect}
 use Rattle.pws_safety.specs.Voters.{Core, new_core, Step}
-use Rattle.pws_safety.specs.Runs.{Reached, start, step, again, Sends, Repeats, with_core}
-use Rattle.pws_safety.proofs.Members.{nowhere, here, there, first_or_rest}
+use Rattle.pws_safety.specs.Runs.{Reached, start, step, again, Sends, Repeats, said_by, with_core}
+use Rattle.pws_safety.specs.Agreement.{SaidIsSent}
+use Rattle.pws_base.proofs.Members.{nowhere, here, there, first_or_rest}
 
--- statements with their sender
-abbrev pub said_by : ℕ → List Statement → Sent
-said_by i [] = []
-said_by i (x ∷ xs) = (i, x) ∷ said_by i xs
-
-said_has : (i : ℕ) (xs : List Statement) (x : Statement) → Contains xs x → Contains (said_by i xs) (i, x)
+-- what is said by a replica
+pub said_has : (i : ℕ) (xs : List Statement) (x : Statement) → Contains xs x → Contains (said_by i xs) (i, x)
 said_has i [] x h = absurd (nowhere x h)
 said_has i (y ∷ xs) x h =
     elim (first_or_rest y x xs h) [
@@ -22,7 +19,7 @@ said_has i (y ∷ xs) x h =
       | inr k ↦ there (i, y) (i, x) (said_by i xs) (said_has i xs x k)
     ]
 
-said_from : (i : ℕ) (xs : List Statement) (k : ℕ) (x : Statement) → Contains (said_by i xs) (k, x) → (i ≡ k) × Contains xs x
+pub said_from : (i : ℕ) (xs : List Statement) (k : ℕ) (x : Statement) → Contains (said_by i xs) (k, x) → (i ≡ k) × Contains xs x
 said_from i [] k x h = absurd (nowhere (k, x) h)
 said_from i (y ∷ xs) k x h =
     elim (first_or_rest (i, y) (k, x) (said_by i xs) h) [
@@ -60,6 +57,12 @@ linked_run_from : (g : Group) {cores : ℕ → Core} {sent : Sent} → Reached g
 linked_run_from g start = linked_start g
 linked_run_from g (again cores before after r repeats) = linked_again g cores before after (linked_run_from g r) repeats
 linked_run_from g (step cores before after i s r ci t sends) = linked_step g cores before after i s (linked_run_from g r) sends
+
+pub said_is_sent : SaidIsSent
+said_is_sent i xs k x = (
+  said_from i xs k x,
+  λ h. subst (λ y. Contains (said_by i xs) (y, x)) h.0 (said_has i xs x h.1),
+)
 
 -- a step says these statements, and they are sent
 pub sends_next : (g : Group) (cores : ℕ → Core) (sent : Sent) (i : ℕ) (s : Core) (xs : List Statement) → IsLinked g cores sent → IsCorrect g i → s.said ≡ xs ++ (cores i).said → Sends g i s sent (said_by i xs ++ sent)

@@ -20,7 +20,7 @@ use Rattle.pws_safety.specs.Statement.{Prepare}
 use Rattle.pws_safety.specs.Statements.{Group, Sent, Gives}
 use Rattle.pws_safety.specs.Voters.{Slot, Core, accepted, with_slot, IsPreparedBy, IsSeenBy, IsNoted, AcceptsChosen, PreparesChosen, IsHeard, IsHad}
 use Rattle.pws_safety.specs.Witnesses.{example_digest, first_checkpoint, prepared_row, seen_digest, pre_prepared_row, example_report}
-use Rattle.pws_safety.proofs.Members.{nowhere, here, first_or_rest, any_has, count_some}
+use Rattle.pws_base.proofs.Members.{nowhere, here, first_or_rest, any_has, count_some}
 use Rattle.pws_safety.proofs.Slots.{some_same, none_some, slot_here, slot_other}
 
 pub only_item : {X : Type 0} (a x : X) → Contains (a ∷ []) x → a ≡ x

@@ -8,12 +8,12 @@ use Rattle.pws_safety.specs.Replicas.{AtLeast}
 use Rattle.pws_safety.specs.Statement.{Statement, Prepare, Commit}
 use Rattle.pws_safety.specs.Statements.{Group, Sent, Told, IsCorrect, primary}
 use Rattle.pws_safety.specs.Voters.{Core, new_core, after_accept, after_prepare, after_commit, Step, accept}
-use Rattle.pws_safety.specs.Runs.{Reached, IsTrusted, with_core}
+use Rattle.pws_safety.specs.Runs.{Reached, IsTrusted, said_by, with_core}
 use Rattle.pws_safety.specs.Runs as run
 use Rattle.pws_safety.specs.Witnesses.{example_digest}
 use Rattle.pws_safety.specs.Counterexamples.{ReachedWith, start, step, again, ruled, HasCommitted, Disagreement, Misleads, QuorumOfTwoF}
 use Rattle.pws_safety.specs.Counterexamples as rule
-use Rattle.pws_safety.proofs.Next.{said_by, IsLinked, linked_start, linked_step, linked_again, sends_next}
+use Rattle.pws_safety.proofs.Next.{IsLinked, linked_start, linked_step, linked_again, sends_next}
 use Rattle.pws_safety.proofs.FirstRun.{two_have}
 
 module _ (Rule : Group → Sent → ℕ → Core → Core → Type 0) (g : Group) where

@@ -7,7 +7,7 @@ use Rattle.pws_base.specs.Counts.{count_below}
 use Rattle.pws_change.specs.declared.heard.Heard.{Heard}
 use Rattle.pws_change.specs.Rising.{rises}
 use Rattle.pws_safety.specs.Replicas.{AtLeast, SendersAreDistinct, sent_one}
-use Rattle.pws_safety.proofs.Members.{any_has, all_has, here, there, tally, tally_counts}
+use Rattle.pws_base.proofs.Members.{any_has, all_has, here, there, tally, tally_counts}
 use Rattle.pws_safety.proofs.Counted.{count_more, count_insert}
 
 pub sent_tells : (q : Heard → Bool) (S : List Heard) (i : ℕ) → sent_one q S i ≡ true → (h : Heard) × Contains S h × (h.index ≡ i) × (q h ≡ true)

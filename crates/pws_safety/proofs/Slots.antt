@@ -10,7 +10,7 @@ use Rattle.pws_safety.specs.Statement as say
 use Rattle.pws_safety.specs.Statements.{Group, StandsBy, primary}
 use Rattle.pws_safety.specs.Voters.{Slot, with_slot, above}
 use Rattle.pws_safety.specs.Kept.{Stood, TellsTrue}
-use Rattle.pws_safety.proofs.Members.{there, first_or_rest}
+use Rattle.pws_base.proofs.Members.{there, first_or_rest}
 use Rattle.pws_safety.proofs.Counted.{count_insert}
 
 pub some_same : (a b : Slot) → ◌≡◌ {A = Option Slot} (Some a) (Some b) → a ≡ b

@@ -5,6 +5,7 @@ use Rattle.std.specs.List.{Contains, count_by, list_any, list_all}
 use Rattle.std.specs.Str.{bytes_eq}
 use Rattle.std.proofs.lemmas.Bool.{true≢false, and_parts, and_from, or_left, or_right, eqb-true, eq-eqb, ltb-true, lt-ltb, leb-true, not-true, cases_order}
 use Rattle.std.proofs.lemmas.Slice.Eq.{bytes_eq-Decides}
+use Rattle.pws_base.specs.Places.{is_in_window}
 use Rattle.pws_base.specs.Shapes.{quorum_of, weak_of}
 use Rattle.pws_msg.specs.declared.changes.PRow.{PRow}
 use Rattle.pws_msg.specs.declared.changes.QRow.{QRow}
@@ -15,7 +16,7 @@ use Rattle.pws_change.specs.declared.heard.Heard.{Heard}
 use Rattle.pws_change.specs.Changes.{has_entry, is_witness, is_row_from, covers, lacks}
 use Rattle.pws_change.specs.Choices.{last_of, chosen_at, null_digest}
 use Rattle.pws_change.specs.Rising.{rises, is_digest_below}
-use Rattle.pws_change.specs.Valid.{IsValid, is_q_row_valid, is_above, are_digests_valid}
+use Rattle.pws_change.specs.Valid.{IsValid, is_q_row_valid, are_digests_valid}
 use Rattle.pws_change.specs.Laws.{HardlyLackedIsKept}
 use Rattle.pws_safety.specs.Replicas.{sent_one}
 use Rattle.pws_safety.specs.Statement.{Commit}
@@ -24,7 +25,7 @@ use Rattle.pws_safety.specs.Statements.{Group, Sent, Gives, StandsFor, Backs, Is
 use Rattle.pws_safety.specs.Kept.{IsBehind, HasGrounds}
 use Rattle.pws_safety.specs.Facts.{Facts}
 use Rattle.pws_safety.specs.Agreement.{FactsGiveAgreement, QuorumSettles}
-use Rattle.pws_safety.proofs.Members.{any_has, any_from, all_has, all_from}
+use Rattle.pws_base.proofs.Members.{any_has, any_from, all_has, all_from}
 use Rattle.pws_safety.proofs.Counted.{count_disjoint, count_apart, a_correct_one, both_have}
 use Rattle.pws_safety.proofs.Behind.{agreed_rises, agreed_view}
 use Rattle.pws_safety.proofs.Senders.{sent_tells, senders_are_distinct, senders_of}
@@ -48,7 +49,7 @@ pub valid_seen : (c : ViewChange) → IsValid c → (q : QRow) → Contains c.pr
 valid_seen c v q h e k =
     let a = and_parts (list_all (is_q_row_valid c.low c.view) c.pre_prepared) (rises (λ (a b : QRow). nat_lt a.place b.place) c.pre_prepared) v.pre_prepared in
     let b = all_has (is_q_row_valid c.low c.view) c.pre_prepared a.0 q h in
-    let d = and_parts (is_above c.low q.place) (are_digests_valid c.view q.digests) b in
+    let d = and_parts (is_in_window c.low q.place) (are_digests_valid c.view q.digests) b in
     digests c.view q.digests e k d.1
   where
     digests : (view : ℕ) (xs : List Seen) (e : Seen) → Contains xs e → are_digests_valid view xs ≡ true → e.view < view

@@ -1,6 +1,6 @@
 -- Agreement: what is settled at a place stays, in every later view, whatever compromised replicas say and the network
 -- does.
-use Rattle.std.specs.Prelude.{ℕ, ◌≡◌, ◌<◌, ◌≤◌, Bool, true, List, Some}
+use Rattle.std.specs.Prelude.{ℕ, ◌≡◌, ◌<◌, ◌≤◌, ◌↔◌, ◌++◌, Bool, true, List, Some}
 use Rattle.std.specs.List.{Contains}
 use Rattle.pws_base.specs.Shapes.{quorum_of}
 use Rattle.pws_msg.specs.declared.changes.ViewChange.{ViewChange}
@@ -9,13 +9,13 @@ use Rattle.pws_change.specs.declared.heard.Heard.{Heard}
 use Rattle.pws_change.specs.Agreements.{Agrees}
 use Rattle.pws_change.specs.Choices.{null_digest}
 use Rattle.pws_safety.specs.Replicas.{AtLeast, IsSound}
-use Rattle.pws_safety.specs.Statement.{Commit}
+use Rattle.pws_safety.specs.Statement.{Statement, Commit}
 use Rattle.pws_safety.specs.Statement as say
 use Rattle.pws_safety.specs.Statements.{Group, Sent, Told, Gives, StandsFor, IsSettled, IsCorrect, size, primary}
 use Rattle.pws_safety.specs.Voters.{Slot, Core, IsHad, Step}
 use Rattle.pws_safety.specs.Kept.{IsBehind, GroupKeeps}
 use Rattle.pws_safety.specs.Facts.{Facts}
-use Rattle.pws_safety.specs.Runs.{Reached, Sends, Repeats, IsTrusted, with_core}
+use Rattle.pws_safety.specs.Runs.{Reached, Sends, Repeats, IsTrusted, said_by, with_core}
 
 -- a digest that is settled at a place is the only one for which a correct replica stands there in a later view
 abbrev pub SettledStays : Group → Sent → Type 0
@@ -40,6 +40,19 @@ pub record FactsGiveAgreement : Type 0 where
   pub one : (g : Group) (sent : Sent) → Facts g sent → OneIsSettled g sent
   pub backed : (g : Group) (sent : Sent) → g.backed null_digest ≡ true → Facts g sent → StandsForBacked g sent
 
+-- what is settled is backed, where the facts hold and the Null event counts as backed
+abbrev pub SettledIsBacked : Type 0
+SettledIsBacked =
+    (g : Group) (sent : Sent) (view place : ℕ) (digest : List ℕ) → g.backed null_digest ≡ true → Facts g sent
+    → IsSettled g sent view place digest → g.backed digest ≡ true
+
+-- what is settled stays so as more is sent
+abbrev pub SettledAsMoreIsSent : Type 0
+SettledAsMoreIsSent =
+    (g : Group) (before after : Sent) (view place : ℕ) (digest : List ℕ)
+    → ((k : ℕ) (x : Statement) → Contains before (k, x) → Contains after (k, x))
+    → IsSettled g before view place digest → IsSettled g after view place digest
+
 -- COMMITs as heard from a quorum of a sound group settle their digest
 abbrev pub QuorumSettles : Type 0
 QuorumSettles =
@@ -52,6 +65,18 @@ StepsKeep =
     (g : Group) (cores : ℕ → Core) (before after : Sent) (i : ℕ) (s : Core) → IsTrusted g
     → GroupKeeps g cores before → IsCorrect g i → Step g before i (cores i) s → Sends g i s before after
     → GroupKeeps g (with_core cores i s) after
+
+-- the statements that a replica said have it as their sender
+abbrev pub SaidIsSent : Type 0
+SaidIsSent =
+    (i : ℕ) (xs : List Statement) (k : ℕ) (x : Statement) → Contains (said_by i xs) (k, x) ↔ ((i ≡ k) × Contains xs x)
+
+-- a step whose new statements are sent at once keeps the invariant
+abbrev pub StepsKeepSaid : Type 0
+StepsKeepSaid =
+    (g : Group) (cores : ℕ → Core) (sent : Sent) (i : ℕ) (s : Core) (xs : List Statement) → IsTrusted g
+    → GroupKeeps g cores sent → IsCorrect g i → Step g sent i (cores i) s → s.said ≡ xs ++ (cores i).said
+    → GroupKeeps g (with_core cores i s) (said_by i xs ++ sent)
 
 -- so does what is only sent again, or by compromised replicas
 abbrev pub RepeatsKeep : Type 0

@@ -1,4 +1,5 @@
 pub mod Agreement
+pub mod Contents
 pub mod Counterexamples
 pub mod Facts
 pub mod Kept

@@ -1,6 +1,6 @@
 -- The runs of a group: its correct replicas step in any order, hear what they like of what was sent, and the
 -- compromised ones say what they like.
-use Rattle.std.specs.Prelude.{ℕ, ◌≡◌, true, if◌then◌else◌, [], ◌==◌}
+use Rattle.std.specs.Prelude.{ℕ, ◌≡◌, true, if◌then◌else◌, List, [], ◌∷◌, ◌==◌}
 use Rattle.std.specs.List.{Contains}
 use Rattle.pws_msg.specs.declared.changes.ViewChange.{ViewChange}
 use Rattle.pws_safety.specs.Replicas.{IsSound}
@@ -11,6 +11,11 @@ use Rattle.pws_safety.specs.Voters.{Core, new_core, Step}
 -- the replica i has the state s, and the others theirs
 abbrev pub with_core : (ℕ → Core) → ℕ → Core → ℕ → Core
 with_core cores i s k = if k == i then s else cores k
+
+-- statements with their sender
+abbrev pub said_by : ℕ → List Statement → Sent
+said_by i [] = []
+said_by i (x ∷ xs) = (i, x) ∷ said_by i xs
 
 -- what was sent stays sent; the replica i has now sent what its new state said, and no other correct replica anything
 pub record Sends (g : Group) (i : ℕ) (s : Core) (before after : Sent) : Type 0 where

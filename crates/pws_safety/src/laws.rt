@@ -1,7 +1,7 @@
 //! Why agreement holds: each law is the contract of a function that does nothing.
 
 ghost use Rattle.pws_safety.specs.Replicas.{QuorumsMeet, QuorumMeetsWeak, WeakHasCorrect, SendersAreDistinct};
-ghost use Rattle.pws_safety.specs.Agreement.{FactsGiveAgreement, QuorumSettles, StepsKeep, RepeatsKeep, MoreIsKept, HadIsBehind, CommittedIsSettled, SlotsKeepTheChoice, KeptGivesFacts, RunsKeep, RunsAgree};
+ghost use Rattle.pws_safety.specs.Agreement.{FactsGiveAgreement, QuorumSettles, StepsKeep, StepsKeepSaid, SaidIsSent, RepeatsKeep, MoreIsKept, HadIsBehind, SettledIsBacked, SettledAsMoreIsSent, CommittedIsSettled, SlotsKeepTheChoice, KeptGivesFacts, RunsKeep, RunsAgree};
 
 /// Any two quorums of a sound group share a correct replica; a quorum and any f + 1 replicas share one; and any f + 1
 /// replicas have a correct one among them.
@@ -22,6 +22,12 @@ pub fn facts_give_agreement()
     ensures { FactsGiveAgreement }
 {}
 
+/// What is settled is backed, and stays settled as more is sent.
+pub fn settled_is_backed()
+    ensures backed { SettledIsBacked }
+    ensures later { SettledAsMoreIsSent }
+{}
+
 /// COMMITs as heard from a quorum settle their digest.
 pub fn quorum_settles()
     ensures { QuorumSettles }
@@ -32,6 +38,12 @@ pub fn quorum_settles()
 pub fn steps_keep()
     ensures step { StepsKeep }
     ensures repeats { RepeatsKeep }
+{}
+
+/// The same where the statements of a step are sent as it is taken, with their sender.
+pub fn steps_keep_said()
+    ensures step { StepsKeepSaid }
+    ensures sender { SaidIsSent }
 {}
 
 /// The invariant stands as more view changes occur and more events are backed.

@@ -5,4 +5,3 @@ pub mod Hexadecimal
 pub mod Laws
 pub mod Spelled
 pub mod Statuses
-pub mod Words

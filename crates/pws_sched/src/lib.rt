@@ -3,7 +3,6 @@
 //! - `first_form` reads a schedule of the first form, which says the requests of one caller to one replica.
 //! - `hexadecimal` reads bytes from lower-case hexadecimal.
 //! - `statuses` has the statuses with which the simulator ends.
-//! - `words` has the words for events, which reports print.
 //! - `laws` states what the definitions of the readers mean.
 //!
 //! The one contract: a text is read exactly where the grammar has it, and then as the one schedule that it spells.
@@ -14,4 +13,3 @@ pub mod first_form;
 pub mod hexadecimal;
 pub mod laws;
 pub mod statuses;
-pub mod words;

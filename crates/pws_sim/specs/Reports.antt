@@ -5,7 +5,7 @@ use Rattle.hex.specs.Hex.{encode_lower}
 use Rattle.pws_event.specs.Lists.{PlacedEvent}
 use Rattle.pws_event.specs.declared.events.Event.{Event}
 use Rattle.pws_event.specs.declared.events.Event.TheVariants as event
-use Rattle.pws_sched.specs.Words.{event_words}
+use Rattle.pws_event.specs.Words.{event_words}
 
 -- requests of the replica's list always take effect, and all else is void, since the replica calls and asks nothing
 abbrev pub fate : Event → List ℕ

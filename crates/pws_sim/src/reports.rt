@@ -10,7 +10,7 @@ use pws_base::shapes::Place;
 use pws_base::writers::Writer;
 use pws_event::events::Event;
 use pws_event::lists::EventList;
-use pws_sched::words::event_words;
+use pws_event::words::event_words;
 use std::alloc::Global;
 
 /// Whether an event took effect.

@@ -23,7 +23,9 @@ use std::marker::Model;
 /// 62 levels, and no text of the body is empty or stands beside another.
 #[derive(Drop)]
 pub struct Envelope {
+    /// The header blocks, in their order.
     headers: Vec<Element>,
+    /// What the body contains.
     body: Vec<Node>,
 }
 
@@ -120,12 +122,12 @@ fn root_children(alloc: Global, headers: Vec<Element>, body: Vec<Node>) -> Resul
     Ok(vec![in alloc; Node::Element(header), Node::Element(body)]?)
 }
 
-/// All elements are lawful; each is read, so that this is known of all.
+/// All elements are lawful.
 fn note_lawful(elements: &[Element])
     ensures { IsTrue (list_all is_lawful elements.now) }
 {
     for element in elements {
-        let _levels = element.depth();
+        let _levels = element.depth(); // shows: the element is lawful
     }
 }
 
@@ -177,6 +179,7 @@ impl Envelope {
         requires { IsTrue (has_few_levels element) }
         ensures { IfOk result (λ e. e ≡ envelope_around element) }
     {
+        // shows: an element is lawful
         let _levels = element.depth();
         let body = vec![in alloc; Node::Element(element)]?;
         Ok(Envelope::of_lawful(Vec::new(alloc), body))

@@ -15,14 +15,12 @@ use pws_base::lists::ExactCopy;
 use pws_base::memory::Memory;
 use pws_tree::characters::is_xml_text;
 use pws_tree::lawful::is_lawful_name;
+use pws_tree::spaces::XML_SPACE;
 use pws_tree::texts::{Attr, Name, Text};
 use pws_tree::trees::{Element, Node};
 use std::alloc::Global;
 use std::marker::Model;
 use thiserror::Error;
-
-/// The namespace of `xml:lang`: Namespaces in XML 1.0, section 3.
-const XML_SPACE: &str = "http://www.w3.org/XML/1998/namespace";
 
 /// The codes of faults: SOAP 1.2 Part 1, section 5.4.6.
 #[derive(Clone, Copy, Debug, PartialEq, Eq)]

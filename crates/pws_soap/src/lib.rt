@@ -23,7 +23,5 @@ pub mod laws;
 pub mod names;
 pub mod opening;
 pub mod reading;
-#[cfg(test)]
-mod tests;
 pub mod white;
 pub mod writing;

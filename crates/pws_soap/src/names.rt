@@ -5,11 +5,9 @@ ghost use Rattle.pws_soap.specs.Names.{soap_name, is_soap_name};
 ghost use Rattle.pws_soap.specs.Blocks.{is_addressing_header};
 
 use pws_base::memory::Memory;
+use pws_tree::spaces::ENVELOPE_SPACE;
 use pws_tree::texts::{Name, Text};
 use std::alloc::Global;
-
-/// The namespace of envelopes: SOAP 1.2 Part 1, section 1.1.
-pub const ENVELOPE_SPACE: &str = "http://www.w3.org/2003/05/soap-envelope";
 
 /// The namespace of addressing headers: WS-Addressing 1.0 Core, section 1.2.
 pub const ADDRESSING_SPACE: &str = "http://www.w3.org/2005/08/addressing";

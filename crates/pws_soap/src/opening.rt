@@ -15,10 +15,11 @@ ghost use Rattle.pws_soap.specs.Opened.{parts_seen, envelope_seen};
 use crate::blocks::{is_not_understood, is_well_marked};
 use crate::envelopes::Envelope;
 use crate::errors::SoapError;
-use crate::names::{ENVELOPE_SPACE, is_soap_name};
+use crate::names::is_soap_name;
 use crate::white::is_all_white;
 use pws_base::lists::ExactCopy;
 use pws_base::memory::Memory;
+use pws_tree::spaces::ENVELOPE_SPACE;
 use pws_tree::texts::Name;
 use pws_tree::trees::{Element, Node};
 use std::alloc::Global;
@@ -159,6 +160,7 @@ fn first_not_understood(headers: &[Element]) -> Option<&Element>
 fn judged(alloc: Global, root: Element) -> Result<Envelope, SoapError>
     ensures { Answers (understood (in_order root.children)) result }
 {
+    // shows: an element is lawful
     let _levels = root.depth();
     let Some(Opened { headers, body }) = in_order(alloc, root.into_children())? else {
         return Err(SoapError::Order);

@@ -8,14 +8,9 @@ ghost use Rattle.pws_tree.specs.Nodes.{node_then, nodes_of};
 ghost use Rattle.pws_tree.specs.Trees.{NoNode};
 
 use crate::characters::{is_local_name, is_xml_text};
+use crate::spaces::{ENVELOPE_SPACE, XMLNS_SPACE};
 use crate::texts::{Attr, Name};
 use crate::trees::Node;
-
-/// Namespaces in XML 1.0, section 3.
-const XMLNS_SPACE: &str = "http://www.w3.org/2000/xmlns/";
-
-/// SOAP 1.2 Part 1, section 1.1.
-const ENVELOPE_SPACE: &str = "http://www.w3.org/2003/05/soap-envelope";
 
 /// Whether a name may be that of an element, or a qualified name.
 #[tactic(auto, unfolding(crate::specs::Names::xmlns_space))]

@@ -3,6 +3,7 @@
 //! - `texts` has texts, names in namespaces, and attributes; `xml_texts` has texts of XML characters alone.
 //! - `characters` tells which characters XML and its names have, and `lawful` which names, attributes and
 //!   children an element may have.
+//! - `spaces` has the namespaces that the rules name.
 //! - `trees` has elements. `Element::make` finds out whether parts make one, and `of_lawful` makes one of parts that are
 //!   known to; so each element that there is keeps the rules. `copy` gives an equal one, and `same` tells whether two are
 //!   one tree.
@@ -16,8 +17,7 @@
 
 pub mod characters;
 pub mod lawful;
-#[cfg(test)]
-mod tests;
+pub mod spaces;
 pub mod texts;
 pub mod trees;
 pub mod xml_texts;

@@ -17,8 +17,10 @@ use thiserror::Error;
 #[derive(Drop)]
 pub struct Element {
     name: Name,
+    /// In the order of their names.
     attrs: Vec<Attr>,
     children: Vec<Node>,
+    /// The levels of the tree, 1 without child elements, so that a parent's are known at once.
     depth: u8,
 }
 

@@ -2,9 +2,10 @@
 use Rattle.std.proofs.Common.{◌≡◌, ℕ, Bool, true, false, List, [], ◌∷◌, find, Some, is_some, refl, ◌∙◌, ap, cond, ◌&&◌, nat_lt}
 use Rattle.std.specs.List.{list_all}
 use Rattle.std.specs.Option.{option_map}
+use Rattle.pws_base.specs.Places.{is_in_window}
 use Rattle.pws_base.specs.Shapes.{size_of_group}
 use Rattle.pws_votes.specs.declared.list_book.Entry.{Entry}
-use Rattle.pws_votes.specs.Votes.{Key, is_in_window}
+use Rattle.pws_votes.specs.Votes.{Key}
 use Rattle.pws_votes.specs.ListBooks.{key_of, is_same_key, is_inside}
 use Rattle.pws_votes.proofs.Found.{both, keys_are}
 

@@ -1,11 +1,10 @@
 -- What a list of votes keeps: no two have one key, and all are inside.
-use Rattle.std.proofs.Common.{◌≡◌, ℕ, ◌-◌, ◌<◌, ◌≤◌, ◌&&◌, ◌||◌, not, Bool, true, false, nat_lt, List, [], ◌∷◌, ◌++◌, find, filter, Option, Some, None, is_some, cond, refl, sym, ◌∙◌, ap, arith}
+use Rattle.std.proofs.Common.{◌≡◌, ℕ, ◌≤◌, ◌&&◌, ◌||◌, not, Bool, true, false, nat_lt, List, [], ◌∷◌, ◌++◌, find, filter, Option, Some, None, is_some, cond, refl, sym, ◌∙◌, ap, arith}
 use Rattle.std.specs.FinMap.{get}
 use Rattle.std.specs.List.{list_any, list_all}
 use Rattle.std.specs.Option.{option_map}
 use Rattle.std.proofs.lemmas.Bool.Decides.{nat_tests}
 use Rattle.std.proofs.lemmas.List.Folds.{list_any-append, list_all-append}
-use Rattle.pws_base.specs.Shapes.{size_of_group}
 use Rattle.pws_votes.specs.declared.list_book.Entry.{Entry}
 use Rattle.pws_votes.specs.Votes.{Key, is_checkpoint}
 use Rattle.pws_votes.specs.ListBooks.{votes_in, key_of, is_same_key, are_apart, is_inside, IsKept}
@@ -117,6 +116,3 @@ kept_push f low es e k h i =
 pub is_none : {X : Type 0} (o : Option X) → is_some o ≡ false → o ≡ None
 is_none None h = refl
 is_none (Some x) h = absurd (cc)
-
-pub inside_is : (f low : ℕ) (e : Entry) → e.voter < size_of_group f → low < e.place → e.place - low ≤ 32 → is_inside f low e ≡ true
-inside_is f low e h k l = grind (arith, nat_tests)

@@ -1,12 +1,13 @@
--- A book that is a list: the votes that its entries stand for.
+-- For proofs alone. A book that is a list: the votes that its entries stand for, and what the list keeps.
 use Rattle.std.specs.Prelude.{◌≡◌, ℕ, ◌≤◌, ◌&&◌, ◌==◌, Bool, true, false, not, nat_lt, List, [], ◌∷◌, map}
 use Rattle.std.specs.List.{list_any, list_all}
 use Rattle.std.specs.FinMap.{FinMap, from_entries}
 use Rattle.pws_votes.specs.declared.kinds.VoteKind.{VoteKind}
 use Rattle.pws_votes.specs.declared.kinds.VoteKind.TheVariants.{Prepare, Commit, Checkpoint}
 use Rattle.pws_votes.specs.declared.list_book.Entry.{Entry}
+use Rattle.pws_base.specs.Places.{is_in_window}
 use Rattle.pws_base.specs.Shapes.{size_of_group}
-use Rattle.pws_votes.specs.Votes.{Key, key, key_cmp, is_in_window}
+use Rattle.pws_votes.specs.Votes.{Key, key, key_cmp}
 
 abbrev pub key_of : Entry → Key
 key_of e = key e.kind e.place e.voter

@@ -1,5 +1,5 @@
 -- Votes as a finite map, after the certificates of Castro and Liskov; the answers are this project's own.
-use Rattle.std.specs.Prelude.{ℕ, ◌+◌, ◌&&◌, Bool, true, false, nat_lt, nat_le, is_some, if◌then◌else◌, List}
+use Rattle.std.specs.Prelude.{ℕ, ◌&&◌, Bool, true, false, nat_lt, is_some, if◌then◌else◌, List}
 use Rattle.std.specs.Option.{option_map_or}
 use Rattle.std.specs.Str.{bytes_eq}
 use Rattle.std.specs.Ordering.{nat_cmp, ordering_then}
@@ -9,6 +9,7 @@ use Rattle.std.specs.FinMap.{FinMap, get, insert, retain_keys}
 use Rattle.std.specs.FinMap as finite
 use Rattle.std.proofs.Common.{refl}
 use Rattle.pws_base.specs.Counts.{count_below}
+use Rattle.pws_base.specs.Places.{is_in_window}
 use Rattle.pws_base.specs.Shapes.{size_of_group}
 use Rattle.pws_votes.specs.contracts.kinds.VoteKind as vote_kind
 use Rattle.pws_votes.specs.declared.kinds.VoteKind.{VoteKind}
@@ -50,10 +51,6 @@ book_code = code_by (ℕ × (ℕ × FinMap key_cmp (List ℕ))) (coded× coded_�
 
 abbrev pub new_book : ℕ → Book
 new_book f = record { f = f; low = 0; votes = finite.empty }
-
--- whether a place is one of the 32 above the low mark
-abbrev pub is_in_window : ℕ → ℕ → Bool
-is_in_window low place = nat_lt low place && nat_le place (low + 32)
 
 abbrev pub has_vote : Book → Key → Bool
 has_vote book k = is_some (get book.votes k)

@@ -1,12 +1,15 @@
 //! Books of votes.
 
-ghost use Rattle.std.specs.Prelude.{◌≡◌, ◌≤◌, IsTrue, IfOk, OnOk, OnErr};
+ghost use Rattle.std.specs.Prelude.{◌≡◌, ◌≤◌, ◌&&◌, nat_lt, IsTrue, IfOk, OnOk, OnErr};
 ghost use Rattle.std.specs.FinMap.{len};
+ghost use Rattle.pws_base.specs.Places.{is_in_window};
+ghost use Rattle.pws_base.specs.Shapes.{size_of_group};
 ghost use Rattle.pws_votes.specs.Votes.{Book, key, new_book, answer_to, after_vote, has_vote, can_vote, without_view, raised_to, matching_of};
 
 use crate::kinds::{Vote, VoteKind};
 use pws_base::lists::ExactCopy;
 use pws_base::memory::Memory;
+use pws_base::places::is_in_window;
 use pws_base::shapes::{Digest, GroupShape, Place};
 use std::alloc::Global;
 
@@ -70,4 +73,11 @@ pub trait VoteBook: ExactCopy {
         requires rises { (book self.old).low ≤ low }
         requires small { low ≤ 1000000 }
         ensures { book self.new ≡ raised_to low (book self.old) };
+}
+
+/// Whether a voter is a replica of the group, and a place in the window.
+pub(crate) fn can_vote(shape: GroupShape, low: Place, place: Place, voter: u8) -> bool
+    ensures { result ≡ (nat_lt voter (size_of_group shape) && is_in_window low place) }
+{
+    voter < shape.n() && is_in_window(low, place)
 }

@@ -6,7 +6,7 @@ ghost use Rattle.std.specs.FinMap.{get};
 ghost use Rattle.pws_votes.specs.Votes.{key, can_vote, is_checkpoint, is_vote_for};
 ghost use Rattle.pws_votes.specs.ListBooks.{key_of, is_same_kind, is_same_key};
 
-use crate::books::VoteBook;
+use crate::books::{VoteBook, can_vote};
 use crate::kinds::{Vote, VoteKind};
 use pws_base::lists::ExactCopy;
 use pws_base::memory::Memory;
@@ -17,9 +17,13 @@ use std::marker::Model;
 /// One vote.
 #[derive(Clone, Copy)]
 struct Entry {
+    /// What it says of the digest.
     kind: VoteKind,
+    /// The place that it is about.
     place: Place,
+    /// The index of the replica whose vote it is.
     voter: u8,
+    /// The digest that it is for.
     digest: Digest,
 }
 
@@ -28,8 +32,11 @@ struct Entry {
 /// Contracts see it as a `Book`.
 #[derive(Drop)]
 pub struct ListBook {
+    /// The shape of the group.
     shape: GroupShape,
+    /// The low mark.
     low: Place,
+    /// The votes, no two of one kind, place and voter, each of a replica of the group and in the window.
     entries: Vec<Entry>,
 }
 
@@ -162,7 +169,7 @@ impl VoteBook for ListBook {
         voter: u8,
         digest: &Digest,
     ) -> Result<Vote, Memory> {
-        if voter >= self.shape.n() || place <= self.low || place - self.low > 32 {
+        if !can_vote(self.shape, self.low, place, voter) {
             return Ok(Vote::Outside);
         }
         if self.has(kind, place, voter) {

@@ -1,6 +1,6 @@
 use Rattle.std.proofs.Common.{◌≡◌, ◌==◌, ◌&&◌, ◌||◌, nat_lt}
 use Rattle.pws_base.specs.declared.shapes.ReplicaId.{ReplicaId}
-use Rattle.pws_auth.specs.Pairs.{is_among}
+use Rattle.pws_base.specs.Replicas.{is_among}
 use Rattle.pws_auth.proofs.members.add_group.Given as goal
 
 abbrev pub invariant-loop-index : goal.invariant-loop-index

@@ -1,7 +1,7 @@
 use Rattle.std.proofs.Common.{◌≡◌, ◌&&◌, nat_lt}
 use Rattle.pws_base.specs.Shapes.{has_replica}
 use Rattle.pws_base.specs.declared.shapes.ReplicaId.{ReplicaId}
-use Rattle.pws_auth.specs.Pairs.{is_among}
+use Rattle.pws_base.specs.Replicas.{is_among}
 use Rattle.pws_auth.proofs.members.members_of.Given as goal
 
 abbrev pub invariant-loop-group : goal.invariant-loop-group

@@ -1,5 +1,6 @@
 use Rattle.std.proofs.Common.{◌++◌, take, arith}
-use Rattle.pws_change.specs.Best.{rank_of_checkpoint, is_same_checkpoint, may_start}
+use Rattle.pws_change.specs.Best.{rank_of_checkpoint, may_start}
+use Rattle.pws_change.specs.Searched.{is_same_checkpoint}
 use Rattle.pws_change.proofs.Best.{best_more, best_all}
 use Rattle.pws_change.proofs.Found.{same_checkpoint}
 use Rattle.pws_change.proofs.search.best_checkpoint.Goals as goal

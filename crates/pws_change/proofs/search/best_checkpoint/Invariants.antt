@@ -1,6 +1,7 @@
 use Rattle.std.proofs.Common.{List, take, ◌++◌}
 use Rattle.pws_msg.specs.declared.changes.Checkpoint.{Checkpoint}
-use Rattle.pws_change.specs.Best.{IsBest, rank_of_checkpoint, is_same_checkpoint, may_start}
+use Rattle.pws_change.specs.Best.{rank_of_checkpoint, may_start}
+use Rattle.pws_change.specs.Searched.{IsBest, is_same_checkpoint}
 use Rattle.pws_change.proofs.search.best_checkpoint.Given as goal
 
 abbrev pub invariant-loop-c : goal.invariant-loop-c

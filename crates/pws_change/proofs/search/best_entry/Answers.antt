@@ -1,5 +1,6 @@
 use Rattle.std.proofs.Common.{◌++◌, take, arith}
-use Rattle.pws_change.specs.Best.{rank_of_row, is_same_row, is_candidate}
+use Rattle.pws_change.specs.Best.{rank_of_row, is_candidate}
+use Rattle.pws_change.specs.Searched.{is_same_row}
 use Rattle.pws_change.proofs.Best.{best_more, best_all}
 use Rattle.pws_change.proofs.Found.{same_row}
 use Rattle.pws_change.proofs.search.best_entry.Goals as goal

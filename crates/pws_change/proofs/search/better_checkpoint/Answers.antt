@@ -1,5 +1,6 @@
 use Rattle.std.proofs.Common.{sym, ◌∙◌}
-use Rattle.pws_change.specs.Best.{rank_of_checkpoint, is_same_checkpoint, may_start}
+use Rattle.pws_change.specs.Best.{rank_of_checkpoint, may_start}
+use Rattle.pws_change.specs.Searched.{is_same_checkpoint}
 use Rattle.pws_change.proofs.Best.{best_takes, best_keeps}
 use Rattle.pws_change.proofs.Found.{same_checkpoint}
 use Rattle.pws_change.proofs.search.better_checkpoint.Goals as goal

@@ -1,5 +1,6 @@
 use Rattle.std.proofs.Common.{sym, ◌∙◌}
-use Rattle.pws_change.specs.Best.{rank_of_row, is_same_row, is_candidate}
+use Rattle.pws_change.specs.Best.{rank_of_row, is_candidate}
+use Rattle.pws_change.specs.Searched.{is_same_row}
 use Rattle.pws_change.proofs.Best.{best_takes, best_keeps}
 use Rattle.pws_change.proofs.Found.{same_row}
 use Rattle.pws_change.proofs.search.better_entry.Goals as goal

@@ -1,5 +1,6 @@
 use Rattle.std.proofs.Common.{take}
-use Rattle.pws_change.specs.Best.{IsBest, rank_of_row, is_same_row, is_candidate}
+use Rattle.pws_change.specs.Best.{rank_of_row, is_candidate}
+use Rattle.pws_change.specs.Searched.{IsBest, is_same_row}
 use Rattle.pws_change.specs.Choices.{prepared_rows}
 use Rattle.pws_change.proofs.search.entry_at.Given as goal
 

@@ -1,6 +1,7 @@
 use Rattle.std.proofs.Common.{take}
 use Rattle.std.specs.List.{flat_map}
-use Rattle.pws_change.specs.Best.{IsBest, rank_of_checkpoint, is_same_checkpoint, may_start}
+use Rattle.pws_change.specs.Best.{rank_of_checkpoint, may_start}
+use Rattle.pws_change.specs.Searched.{IsBest, is_same_checkpoint}
 use Rattle.pws_change.proofs.search.start_of.Given as goal
 
 abbrev pub invariant-loop-h : goal.invariant-loop-h

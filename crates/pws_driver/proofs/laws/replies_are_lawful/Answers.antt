@@ -1,4 +1,4 @@
-use Rattle.pws_driver.specs.ReplyRuns.{replies_lawful}
+use Rattle.pws_driver.specs.Lemmas.ReplyRuns.{replies_lawful}
 use Rattle.pws_driver.proofs.laws.replies_are_lawful.Goals as goal
 
 pub returns : goal.returns

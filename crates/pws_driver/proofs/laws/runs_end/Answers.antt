@@ -1,4 +1,4 @@
-use Rattle.pws_driver.specs.RunLaws.{run_over}
+use Rattle.pws_driver.specs.Lemmas.RunLaws.{run_over}
 use Rattle.pws_driver.proofs.laws.runs_end.Goals as goal
 
 pub returns : goal.returns

@@ -1,4 +1,4 @@
-use Rattle.pws_driver.specs.RunLaws.{run_resumed}
+use Rattle.pws_driver.specs.Lemmas.RunLaws.{run_resumed}
 use Rattle.pws_driver.proofs.laws.runs_go_on.Goals as goal
 
 pub returns : goal.returns

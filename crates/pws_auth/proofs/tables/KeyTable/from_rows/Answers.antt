@@ -1,6 +1,6 @@
 use Rattle.std.proofs.Common.{◌∙◌, sym, ap, get_or, []}
 use Rattle.std.proofs.lemmas.Result.{err_from_is_err_and}
-use Rattle.pws_auth.specs.Pairs.{is_among}
+use Rattle.pws_base.specs.Replicas.{is_among}
 use Rattle.pws_auth.proofs.Rows.{has_all_rows, has_no_rows, has_row_more, row_refused, rows_are_whole, me_seals, not_whole}
 use Rattle.pws_auth.proofs.tables.KeyTable.from_rows.Goals as goal
 

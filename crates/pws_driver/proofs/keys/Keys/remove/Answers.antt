@@ -1,6 +1,6 @@
 use Rattle.std.proofs.Common.{rules, not}
 use Rattle.std.proofs.lemmas.Fn.{filter_same}
-use Rattle.pws_driver.specs.Keys.{same_key}
+use Rattle.pws_service.specs.Keys.{same_key}
 use Rattle.pws_driver.proofs.keys.Keys.remove.Goals as goal
 
 pub returns : goal.returns

@@ -1,7 +1,7 @@
 use Rattle.std.proofs.Common.{◌≡◌, false, sym, ◌∙◌, ap}
 use Rattle.pws_driver.specs.Services.{service_of}
 use Rattle.pws_driver.specs.Runs.{run_at, finish, IsOver}
-use Rattle.pws_driver.specs.RunLaws.{finish_step, finish_over}
+use Rattle.pws_driver.specs.Lemmas.RunLaws.{finish_step, finish_over}
 use Rattle.pws_driver.proofs.machines.Machine.run.Goals as goal
 
 pub returns-then-not-goes : goal.returns-then-not-goes

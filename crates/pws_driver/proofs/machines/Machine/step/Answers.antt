@@ -2,7 +2,7 @@ use Rattle.std.proofs.Common.{◌≡◌, true, false, arith}
 use Rattle.pws_driver.specs.Services.{service_of}
 use Rattle.pws_driver.specs.Runs.{run_at}
 use Rattle.pws_driver.specs.Takings.{is_ready}
-use Rattle.pws_driver.specs.RunLaws.{step_ready_falls, step_takes_falls}
+use Rattle.pws_driver.specs.Lemmas.RunLaws.{step_ready_falls, step_takes_falls}
 use Rattle.pws_driver.proofs.Stepped.{step_ready, step_takes}
 use Rattle.pws_driver.proofs.machines.Machine.step.Goals as goal
 

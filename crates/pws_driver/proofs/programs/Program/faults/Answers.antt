@@ -4,4 +4,4 @@ use Rattle.std.proofs.lemmas.Option.{unwrap_or-slice_get}
 use Rattle.pws_driver.proofs.programs.Program.faults.Goals as goal
 
 pub returns-in-None : goal.returns-in-None
-returns-in-None c = ap (λ (o : Option ℕ). unwrap_or o 0) c.in-None.ensures ∙ unwrap_or-slice_get c.args.self.now.layout c.args.self.now.me 0
+returns-in-None c = ap (λ (o : Option ℕ). unwrap_or o 0) c.in-None.ensures.value ∙ unwrap_or-slice_get c.args.self.now.layout c.args.self.now.me 0

@@ -1,6 +1,6 @@
 use Rattle.std.proofs.Common.{refl}
 use Rattle.pws_driver.specs.Services.{service_of}
-use Rattle.pws_driver.specs.RunLaws.{starts_at}
+use Rattle.pws_driver.specs.Lemmas.RunLaws.{starts_at}
 use Rattle.pws_driver.proofs.runners.RunnerDriver.start.Goals as goal
 
 pub returns-clause-acts : goal.returns-clause-acts

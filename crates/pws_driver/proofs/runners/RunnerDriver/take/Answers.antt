@@ -2,7 +2,7 @@ use Rattle.std.proofs.Common.{◌≡◌, [], ◌∷◌, ◌++◌, List, ◌∙�
 use Rattle.pws_event.specs.declared.events.Event.{Event}
 use Rattle.pws_driver.specs.Services.{service_of}
 use Rattle.pws_driver.specs.Runs.{run_at, finish}
-use Rattle.pws_driver.specs.RunLaws.{goes_on}
+use Rattle.pws_driver.specs.Lemmas.RunLaws.{goes_on}
 use Rattle.pws_driver.proofs.runners.RunnerDriver.take.Goals as goal
 
 pub returns-clause-acts : goal.returns-clause-acts

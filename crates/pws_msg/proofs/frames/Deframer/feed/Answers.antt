@@ -1,5 +1,5 @@
 use Rattle.std.proofs.Common.{◌≡◌, ℕ, subst, refl, sym, Option}
-use Rattle.pws_msg.specs.Feeds.{CutsAt}
+use Rattle.pws_msg.specs.Pieces.{CutsAt}
 use Rattle.pws_msg.specs.Deframing.{Deframing, HasRead}
 use Rattle.pws_msg.proofs.Streams.{fed_whole, fed_broken}
 use Rattle.pws_msg.proofs.frames.Deframer.feed.Goals as goal

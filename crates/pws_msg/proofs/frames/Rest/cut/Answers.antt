@@ -1,5 +1,5 @@
 use Rattle.std.proofs.Common.{◌≡◌, ◌≤◌, ◌+◌, ◌++◌, ◌∷◌, [], List, ℕ, length, take, drop, arith, subst, ap, ◌∙◌}
-use Rattle.pws_msg.specs.Feeds.{StepsTo}
+use Rattle.pws_msg.specs.Pieces.{StepsTo}
 use Rattle.pws_msg.specs.declared.frames.Step.{Step}
 use Rattle.pws_msg.specs.declared.frames.Step.TheVariants as step
 use Rattle.pws_msg.specs.Frames.{IsStream}

@@ -6,7 +6,7 @@ use Rattle.pws_msg.specs.Begun.{IsBegun}
 use Rattle.pws_base.specs.Texts.{u32_text}
 use Rattle.pws_msg.proofs.Streams.{head_more, unknown_is, begun_head, begun_packet, rest_of_begun}
 use Rattle.pws_msg.proofs.frames.Rest.take_head.Goals as goal
-use Rattle.pws_msg.proofs.frames.Rest.take_head.Goals.{then-size-eq0-via-then-size-eq0, then-size-eq0-via-else-size-eq0+then-size-gt-LONGEST}
+use Rattle.pws_msg.proofs.frames.Rest.take_head.Goals.{then-size-eq0-via-then-size-eq0, then-size-eq0-via-else-size-eq0+then-size-gt-MAX_PACKET}
 
 pub invariant_of-self-then-len-lt-FIELD : goal.invariant_of-self-then-len-lt-FIELD
 invariant_of-self-then-len-lt-FIELD c =
@@ -42,7 +42,7 @@ returns-then-size-eq0-clause-step c =
         field = c.size_of-size.ensures.small;
         outside = elim c.then-size-eq0.branch [
           | then-size-eq0-via-then-size-eq0 w ↦ inl (omega arith)
-          | then-size-eq0-via-else-size-eq0+then-size-gt-LONGEST w ↦ inr (omega arith)
+          | then-size-eq0-via-else-size-eq0+then-size-gt-MAX_PACKET w ↦ inr (omega arith)
         ];
       },
       m.1 ∙ s,

@@ -1,8 +1,8 @@
-use Rattle.std.proofs.Common.{◌∙◌, sym, ap, arith}
+use Rattle.std.proofs.Common.{◌∙◌, sym, ap}
 use Rattle.std.specs.FinMap.{get}
 use Rattle.pws_votes.specs.declared.list_book.Entry.{Entry}
 use Rattle.pws_votes.specs.Votes.{Book, key}
-use Rattle.pws_votes.proofs.Kept.{kept_push, is_none, inside_is}
+use Rattle.pws_votes.proofs.Kept.{kept_push, is_none}
 use Rattle.pws_votes.proofs.list_book.ListBookVoteBook.vote.Goals as goal
 
 pub invariant_of-self-2 : goal.invariant_of-self-2
@@ -12,4 +12,4 @@ invariant_of-self-2 c =
     let none = is_none _ (sym c.has.ensures.value ∙ c.if-has.false) in
     rw c.in_ok-push.ensures.items
     (kept_push c.self.inside.shape c.self.inside.low c.self.inside.entries.items e c.self.invariant
-    (ap (λ (b : Book). get b.votes k) c.self.view_is ∙ none) (inside_is c.self.inside.shape c.self.inside.low e (omega arith) (omega arith) (omega arith)))
+    (ap (λ (b : Book). get b.votes k) c.self.view_is ∙ none) (sym c.can_vote.ensures ∙ c.if-not-can_vote.false))

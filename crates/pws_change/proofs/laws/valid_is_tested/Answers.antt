@@ -1,0 +1,5 @@
+use Rattle.pws_change.proofs.Agreeing as laws
+use Rattle.pws_change.proofs.laws.valid_is_tested.Goals as goal
+
+pub returns : goal.returns
+returns c = laws.valid_is_tested

@@ -1,5 +1,0 @@
-use Rattle.pws_driver.specs.EffectLaws.{effects_in_turn}
-use Rattle.pws_driver.proofs.laws.effects_are_in_turn.Goals as goal
-
-pub returns : goal.returns
-returns c = effects_in_turn

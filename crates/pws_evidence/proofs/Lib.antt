@@ -1,0 +1,9 @@
+pub mod Bettered
+pub mod Compared
+pub mod Heard
+pub mod Maps
+pub mod ProposingAnswers
+pub mod ProposingReadings
+pub mod Quorums
+pub mod Ranged
+pub mod Stored

@@ -1,0 +1,3 @@
+pub mod DigestMaps
+pub mod PlaceMaps
+pub mod Rings

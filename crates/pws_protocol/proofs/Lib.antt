@@ -1,0 +1,9 @@
+pub mod Calm
+pub mod Executing
+pub mod Keyed
+pub mod Noting
+pub mod Proposing
+pub mod Reacting
+pub mod Starting
+pub mod Staying
+pub mod Supporting

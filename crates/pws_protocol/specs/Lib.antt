@@ -1,0 +1,16 @@
+pub mod Actions
+pub mod Alike
+pub mod Candidates
+pub mod Doing
+pub mod Evidence
+pub mod Executed
+pub mod Fits
+pub mod Gathered
+pub mod Hearing
+pub mod Held
+pub mod Keys
+pub mod Laws
+pub mod Reactions
+pub mod States
+pub mod Support
+pub mod Ticks

@@ -1,0 +1,5 @@
+pub mod Answered
+pub mod Inside
+pub mod Places
+pub mod Rows
+pub mod Sets

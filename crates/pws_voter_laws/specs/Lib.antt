@@ -1,0 +1,4 @@
+pub mod Enabled
+pub mod Fitting
+pub mod Rest
+pub mod Staying
