@@ -28,36 +28,56 @@ fn a_vote_is_there(rt: HostRuntime) -> Result<(), Fail> {
     Ok(())
 }
 
-/// The votes of four replicas, one of which disagrees at place 5: how many match there, and how many votes there are, after
-/// the view was left, and after the low mark rose.
-fn four_vote<B: VoteBook>(book: &mut B) -> Result<(u8, usize, usize, usize), Memory> {
+/// The votes of a replica: one that disagrees with the others at place 5, if it is the last, and three more.
+fn votes<B: VoteBook>(book: &mut B, voter: u8) -> Result<(), Memory> {
+    let _answer = book.vote(VoteKind::Prepare, 5, voter, &[voter / 3; 32])?;
+    let _answer = book.vote(VoteKind::Commit, 20, voter, &[8; 32])?;
+    let _answer = book.vote(VoteKind::Checkpoint, 16, voter, &[9; 32])?;
+    let _answer = book.vote(VoteKind::Checkpoint, 32, voter, &[9; 32])?;
+    Ok(())
+}
+
+/// Whether the votes of four replicas are there, and three of them match at place 5.
+fn four_vote<B: VoteBook>(book: &mut B) -> Result<bool, Memory> {
     for voter in 0..4 {
-        let _answer = book.vote(VoteKind::Prepare, 5, voter, &[voter / 3; 32])?;
-        let _answer = book.vote(VoteKind::Commit, 20, voter, &[8; 32])?;
-        let _answer = book.vote(VoteKind::Checkpoint, 16, voter, &[9; 32])?;
-        let _answer = book.vote(VoteKind::Checkpoint, 32, voter, &[9; 32])?;
+        votes(book, voter)?;
     }
-    let matching = book.matching(VoteKind::Prepare, 5, &[0; 32]);
-    let all = book.count();
+    Ok(book.matching(VoteKind::Prepare, 5, &[0; 32]) == 3 && book.count() == 16)
+}
+
+/// Whether half of them go when the view is left, and half of the others when the low mark rises.
+fn votes_go<B: VoteBook>(book: &mut B) -> bool {
     book.clear_view();
-    let kept = book.count();
-    if book.low() <= 16 {
-        book.raise_low(16);
+    if book.count() != 8 || book.low() > 16 {
+        return false;
     }
-    Ok((matching, all, kept, book.count()))
+    book.raise_low(16);
+    book.count() == 4
 }
 
 #[test]
-fn books_agree(rt: HostRuntime) -> Result<(), Fail> {
-    let shape = GroupShape::new(1)?;
-    let mut list = ListBook::new(rt.alloc(), shape)?;
-    assert!(rt; four_vote(&mut list)? == (3, 16, 8, 4));
-    let mut masks = MaskBook::new(rt.alloc(), shape)?;
-    assert!(rt; four_vote(&mut masks)? == (3, 16, 8, 4));
-    assert!(rt; masks.keep(VoteKind::Checkpoint, 32, 3, &[1; 32]) == Vote::Already);
-    assert!(rt; masks.keep(VoteKind::Prepare, 48, 0, &[1; 32]) == Vote::Kept);
-    assert!(rt; masks.keep(VoteKind::Prepare, 49, 0, &[1; 32]) == Vote::Outside);
-    let copy = masks.copy(rt.alloc())?;
+fn a_book_over_a_list(rt: HostRuntime) -> Result<(), Fail> {
+    let mut book = ListBook::new(rt.alloc(), GroupShape::new(1)?)?;
+    assert!(rt; four_vote(&mut book)?);
+    assert!(rt; votes_go(&mut book));
+    Ok(())
+}
+
+/// Whether votes are kept once, and in the window alone.
+fn keeps_votes(book: &mut MaskBook) -> bool {
+    let again = book.keep(VoteKind::Checkpoint, 32, 3, &[1; 32]);
+    let last = book.keep(VoteKind::Prepare, 48, 0, &[1; 32]);
+    let beyond = book.keep(VoteKind::Prepare, 49, 0, &[1; 32]);
+    again == Vote::Already && last == Vote::Kept && beyond == Vote::Outside
+}
+
+#[test]
+fn a_book_over_masks(rt: HostRuntime) -> Result<(), Fail> {
+    let mut book = MaskBook::new(rt.alloc(), GroupShape::new(1)?)?;
+    assert!(rt; four_vote(&mut book)?);
+    assert!(rt; votes_go(&mut book));
+    assert!(rt; keeps_votes(&mut book));
+    let copy = book.copy(rt.alloc())?;
     assert!(rt; copy.has(VoteKind::Prepare, 48, 0) && copy.count() == 5);
     Ok(())
 }

@@ -54,14 +54,18 @@ fn a_request_is_made(rt: HostRuntime) -> Result<(), Fail> {
     Ok(())
 }
 
-#[test]
-fn a_packet_is_made(rt: HostRuntime) -> Result<(), Fail> {
-    let alloc = rt.alloc();
-    let sender = ReplicaId { group: 1, index: 0 };
+/// That packet.
+fn reply_packet(alloc: Global) -> Result<Packet, Memory> {
     let body = Bytes::from_slice(alloc, b"hi")?;
+    let sender = ReplicaId { group: 1, index: 0 };
     let reply = Content::Reply(ReplyNote::new(0, 1, Sha256::digest(b"hi")));
     let (tags, vouchers) = (Sequence::new(alloc), Sequence::new(alloc));
-    let packet = Packet::new(sender, 0, reply, tags, Some(body), vouchers);
-    assert!(rt; is_written(alloc, &packet, REPLY)?);
+    Ok(Packet::new(sender, 0, reply, tags, Some(body), vouchers))
+}
+
+#[test]
+fn a_packet_is_made(rt: HostRuntime) -> Result<(), Fail> {
+    let packet = reply_packet(rt.alloc())?;
+    assert!(rt; is_written(rt.alloc(), &packet, REPLY)?);
     Ok(())
 }

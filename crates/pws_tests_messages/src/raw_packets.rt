@@ -26,20 +26,23 @@ fn vouchers(alloc: Global) -> Result<Sequence<RawVoucher>, Memory> {
 
 /// A packet of the replica 1.0 to group 0, with a content of no kind, a body and a voucher.
 fn packet(alloc: Global) -> Result<RawPacket, Memory> {
+    let content = Bytes::from_slice(alloc, b"??")?;
+    let body = Bytes::from_slice(alloc, b"x")?;
+    let vouchers = vouchers(alloc)?;
     Ok(RawPacket {
         sender: ReplicaId { group: 1, index: 0 },
         receiver: 0,
-        content: Bytes::from_slice(alloc, b"??")?,
+        content,
         tags: Sequence::new(alloc),
-        body: Some(Bytes::from_slice(alloc, b"x")?),
-        vouchers: vouchers(alloc)?,
+        body: Some(body),
+        vouchers,
     })
 }
 
 #[test]
 fn a_raw_packet_is_written(rt: HostRuntime) -> Result<(), Fail> {
-    let alloc = rt.alloc();
-    let written = write_raw_packet(alloc, &packet(alloc)?)?;
+    let packet = packet(rt.alloc())?;
+    let written = write_raw_packet(rt.alloc(), &packet)?;
     assert!(rt; written.as_slice() == WRITTEN);
     Ok(())
 }
