@@ -39,11 +39,16 @@ fn packet(alloc: Global) -> Result<RawPacket, Memory> {
     })
 }
 
+/// Whether the packet is written as these bytes.
+fn is_written(alloc: Global, packet: &RawPacket, wanted: &[u8]) -> Result<bool, Memory> {
+    let written = write_raw_packet(alloc, packet)?;
+    Ok(written.as_slice() == wanted)
+}
+
 #[test]
 fn a_raw_packet_is_written(rt: HostRuntime) -> Result<(), Fail> {
     let packet = packet(rt.alloc())?;
-    let written = write_raw_packet(rt.alloc(), &packet)?;
-    assert!(rt; written.as_slice() == WRITTEN);
+    assert!(rt; is_written(rt.alloc(), &packet, WRITTEN)?);
     Ok(())
 }
 
