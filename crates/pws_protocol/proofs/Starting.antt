@@ -1,12 +1,18 @@
 -- A voter that has heard nothing fits.
-use Rattle.std.proofs.Common.{◌≡◌, inl, inr, ℕ, ◌%◌, List, Some, refl, sym, ◌∙◌, subst, cond, ap, arith}
+use Rattle.std.proofs.Common.{◌≡◌, inl, inr, ℕ, ◌%◌, ◌≤◌, List, length, Some, refl, sym, ◌∙◌, subst, cond, ap, arith}
 use Rattle.std.specs.Ordering.{nat_cmp, is_eq}
 use Rattle.std.specs.Cmp.{nat_cmp_total, tied_itself}
 use Rattle.std.specs.Cmp.Lexicographic.{slice_cmp}
 use Rattle.std.specs.FinMap.{empty, get, insert, get-insert, nat_cmp-IsAntisymmetric}
+use Rattle.std.specs.FinSet.{contains-empty}
 use Rattle.std.proofs.lemmas.Bool.{false≢true}
+use Rattle.pws_msg.specs.Rows.{IsDigest}
+use Rattle.pws_votes.specs.declared.kinds.VoteKind.TheVariants as kind
+use Rattle.pws_votes.specs.Votes.{key, key_cmp}
+use Rattle.pws_protocol.specs.Keys.{body_cmp}
+use Rattle.pws_protocol.specs.Evidence.{no_evidence}
 use Rattle.pws_protocol.specs.States.{Me, start, first_chain}
-use Rattle.pws_protocol.specs.Fits.{FitsChains, FitsRows, FitsChanges, IsAloneAtFirst, IsWithin}
+use Rattle.pws_protocol.specs.Fits.{FitsSizes, FitsMarks, FitsVotes, FitsAcks, FitsDigests, FitsTags, FitsChains, FitsRows, FitsChanges, IsAloneAtFirst, IsWithin}
 use Rattle.pws_protocol.specs.Laws.{StartFits}
 use Rattle.pws_protocol.proofs.Noting.{put_cases, nothing_there, at_first}
 
@@ -47,11 +53,53 @@ module _ (me : Me) (layout : List ℕ) where
     own = λ l. absurd (omega arith);
   }
 
+  marks_fit : FitsMarks (start me layout)
+  marks_fit = record { floor = omega arith; last = (omega arith, omega arith) }
+
+  votes_fit : FitsVotes (start me layout)
+  votes_fit = record {
+    voter = λ k d h. absurd (nothing_there key_cmp k d h);
+    place = λ k d h. absurd (nothing_there key_cmp k d h);
+    own = λ p d h. absurd (nothing_there key_cmp (key kind.Checkpoint p me.index) d h);
+  }
+
+  acks_fit : FitsAcks (start me layout)
+  acks_fit = record {
+    from = λ i row h. absurd (nothing_there nat_cmp i row h);
+    about = λ i j row d h k. absurd (nothing_there nat_cmp i row h);
+  }
+
+  digests_fit : FitsDigests (start me layout)
+  digests_fit = record {
+    chain = refl;
+    chains = λ p d h. subst IsDigest (sym (one_chain p d h).1) refl;
+    slots = λ p t h. absurd (nothing_there nat_cmp p t h);
+    votes = λ k d h. absurd (nothing_there key_cmp k d h);
+    prepared = λ p d v h. absurd (nothing_there nat_cmp p (d, v) h);
+    pre_prepared = λ p row d v h k. absurd (nothing_there nat_cmp p row h);
+    acks = λ i j row d h k. absurd (nothing_there nat_cmp i row h);
+    needed = λ d h. absurd (false≢true (sym (contains-empty (slice_cmp nat_cmp) d) ∙ h));
+    heard = λ j c h. absurd (nothing_there nat_cmp j c h);
+    relayed = λ j c h. absurd (nothing_there nat_cmp j c h);
+  }
+
+  tags_fit : FitsTags (start me layout)
+  tags_fit = record {
+    heard = λ j c h. absurd (nothing_there nat_cmp j c h);
+    relayed = λ j c h. absurd (nothing_there nat_cmp j c h);
+  }
+
+  sizes_fit : length layout ≤ 16 → FitsSizes (no_evidence me.group layout)
+  sizes_fit groups = record {
+    layout = groups;
+    bodies = λ k b h. absurd (nothing_there body_cmp k b h);
+  }
+
   alone_fits : IsAloneAtFirst (start me layout)
   alone_fits = record { view = (refl, refl, refl, refl, refl); nothing = (refl, refl, refl, refl, refl) }
 
 pub start_fits : StartFits
-start_fits me layout index small shape = record {
+start_fits me layout index small shape groups = record {
   me = (index, small, shape);
   group = refl;
   book = (refl, refl);
@@ -70,5 +118,11 @@ start_fits me layout index small shape = record {
   rows = rows_fit me layout;
   changes = changes_fit me layout;
   evidence = at_first me.group layout;
+  sizes = sizes_fit me layout groups;
+  marks = marks_fit me layout;
+  votes = votes_fit me layout;
+  acks = acks_fit me layout;
+  digests = digests_fit me layout;
+  tags = tags_fit me layout;
   alone = λ h. alone_fits me layout;
 }

@@ -159,7 +159,7 @@ placed_from p [] = []
 placed_from p (d ∷ ds) = (p, d) ∷ placed_from (p + 1) ds
 
 -- whether one can be accepted: its place is in the window, and its row of Q has room
-abbrev can_take : State → ℕ × List ℕ → Bool
+abbrev pub can_take : State → ℕ × List ℕ → Bool
 can_take s x = is_in_window s.low x.0 && not (is_full s.pre_prepared x.0 x.1)
 
 -- those that are accepted
@@ -186,7 +186,7 @@ entered s c = record s {
 }
 
 -- the NEW_VIEW of this choice
-abbrev offer_of : State → Choice → NewView
+abbrev pub offer_of : State → Choice → NewView
 offer_of s c = record { view = s.view; named = map name_of (counted s); choice = c }
 
 -- the indices of those that count but the own one, rising

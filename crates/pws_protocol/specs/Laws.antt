@@ -1,10 +1,11 @@
 -- What follows from the definitions alone.
-use Rattle.std.specs.Prelude.{◌≡◌, ◌<◌, ◌≤◌, slice_get, ◌⊎◌, IsTrue, ℕ, Bool, true, false, List, Some, suc, zero}
+use Rattle.std.specs.Prelude.{◌≡◌, ◌<◌, ◌≤◌, slice_get, ◌⊎◌, IsTrue, ℕ, Bool, true, false, List, length, Some, suc, zero}
 use Rattle.std.specs.Cmp.{IsTotalOrder}
 use Rattle.std.specs.FinMap.{IsAntisymmetric}
 use Rattle.std.specs.List.{list_all}
 use Rattle.pws_base.specs.declared.shapes.ReplicaId.{ReplicaId}
 use Rattle.pws_base.specs.Counts.{count_below}
+use Rattle.pws_base.specs.Limits.{max_groups}
 use Rattle.pws_base.specs.Shapes.{size_of_group}
 use Rattle.pws_event.specs.Counters.{Counters}
 use Rattle.pws_event.specs.declared.events.Event.{Event}
@@ -69,9 +70,11 @@ ReactIsMet =
     (s : State) (asked : Counters) (input : Input)
     → Reacts s asked input (react s asked input) ⊎ Goes asked turns (begun (settled_state s asked) asked input).reaction
 
--- a voter that has heard nothing fits
+-- a voter that has heard nothing fits, in a layout that there may be
 abbrev pub StartFits : Type 0
-StartFits = (me : Me) (layout : List ℕ) → me.index < size_of_group me.f → me.f ≤ 3 → slice_get layout me.group ≡ Some me.f → Fits (start me layout)
+StartFits =
+    (me : Me) (layout : List ℕ) → me.index < size_of_group me.f → me.f ≤ 3 → slice_get layout me.group ≡ Some me.f → length layout ≤ max_groups
+    → Fits (start me layout)
 
 -- the evidence of a voter fits whatever it is given
 abbrev pub EvidenceStaysFit : Type 0

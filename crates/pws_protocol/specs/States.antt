@@ -1,5 +1,5 @@
 -- The state of a voter: a replica's part in the agreement of its group, after Castro and Liskov (2002).
-use Rattle.std.specs.Prelude.{ℕ, ◌+◌, ◌==◌, ◌&&◌, not, Bool, true, false, is_some, if◌then◌else◌, List, replicate, Option, Some, None}
+use Rattle.std.specs.Prelude.{ℕ, ◌+◌, ◌==◌, ◌&&◌, not, Bool, true, false, nat_lt, is_some, if◌then◌else◌, List, replicate, Option, Some, None}
 use Rattle.std.specs.List.{range_with_len}
 use Rattle.std.specs.Ordering.{nat_cmp}
 use Rattle.std.specs.Str.{bytes_eq}
@@ -145,9 +145,13 @@ text_of s digest = if bytes_eq digest null_digest then Some event.Null else get 
 abbrev pub is_held : State → List ℕ → Bool
 is_held s digest = is_some (text_of s digest)
 
--- whether an event is neither held nor asked for since the last tick
+-- the events of so many digests may be asked for between two ticks
+abbrev pub most_needed : ℕ
+most_needed = 1024
+
+-- whether an event is neither held nor asked for since the last tick, while another may be asked for
 abbrev pub is_wanted : State → List ℕ → Bool
-is_wanted s digest = not (is_held s digest) && not (set.contains s.needed digest)
+is_wanted s digest = not (is_held s digest) && (not (set.contains s.needed digest) && nat_lt (set.len s.needed) most_needed)
 
 -- a digest just accepted
 abbrev pub new_slot : List ℕ → Slot

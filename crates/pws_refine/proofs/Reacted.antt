@@ -97,9 +97,11 @@ unfolding settled_state settled
 settled_said s asked x h = record {
   sender = record { replica = h.sender.replica; other = h.sender.other };
   content = h.content;
+  tags = h.tags;
+  body = h.body;
   outside = h.outside;
   inside = h.inside;
-  vouchers = λ k d i. let v = h.vouchers k d i in record { content = v.content; sender = λ e. record { replica = (v.sender e).replica; other = (v.sender e).other } };
+  vouchers = λ k d i. let v = h.vouchers k d i in record { content = v.content; tags = v.tags; sender = λ e. record { replica = (v.sender e).replica; other = (v.sender e).other } };
 }
 
 -- statements with their sender, one list after another

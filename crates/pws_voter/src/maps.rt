@@ -239,9 +239,10 @@ pub struct DigestSet {
 }
 
 impl Model for DigestSet {
+    ghost use Rattle.std.specs.Prelude.{◌≡◌, length};
     ghost use Rattle.std.specs.Ordering.{nat_cmp};
     ghost use Rattle.std.specs.Cmp.Lexicographic.{slice_cmp};
-    ghost use Rattle.std.specs.FinSet.{FinSet, from_list};
+    ghost use Rattle.std.specs.FinSet.{FinSet, from_list, len};
     ghost use Rattle.pws_voter.specs.Codes.{needed_code};
 
     ghost Value = { FinSet (slice_cmp nat_cmp) };
@@ -249,6 +250,8 @@ impl Model for DigestSet {
     ghost coded = { needed_code };
 
     ghost view = { λ s. from_list s.keys.items };
+
+    ghost invariant = { λ s. len (from_list {R = slice_cmp nat_cmp} s.keys.items) ≡ length s.keys.items };
 }
 
 impl DigestSet {
@@ -274,7 +277,7 @@ impl DigestSet {
     /// # Errors
     ///
     /// `Memory` only.
-    #[tactic(auto, using(crate::proofs::Sets::there, crate::proofs::Sets::pushed))]
+    #[tactic(auto, using(crate::proofs::Sets::there, crate::proofs::Sets::pushed, crate::proofs::Sets::counted))]
     pub fn put(&mut self, digest: &Digest) -> Result<(), Memory>
         ensures { OnOk result (self.new ≡ set.insert self.old digest.now) }
     {
@@ -283,6 +286,13 @@ impl DigestSet {
         }
         self.keys.push(*digest)?;
         Ok(())
+    }
+
+    /// How many digests it has.
+    pub fn count(&self) -> usize
+        ensures { result ≡ set.len self.now }
+    {
+        self.keys.len()
     }
 
     /// Drops all digests.

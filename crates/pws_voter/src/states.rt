@@ -32,6 +32,9 @@ use pws_votes::kinds::VoteKind;
 use std::alloc::Global;
 use std::marker::Model;
 
+/// The events of so many digests may be asked for between two ticks.
+const MOST_NEEDED: usize = 1024;
+
 /// What a voter holds.
 ///
 /// Contracts see it as a `State` of the protocol's rules.
@@ -211,12 +214,12 @@ impl<B: VoteBook> State<B> {
         is_null(digest) || self.texts.get(digest).is_some()
     }
 
-    /// Whether the event of a digest is neither held nor asked for since the last tick.
+    /// Whether the event of a digest is neither held nor asked for since the last tick, while another may be asked for.
     #[tactic(auto, unfolding(pws_protocol::specs::States::text_of))]
     pub(crate) fn is_wanted(&self, digest: &Digest) -> bool
         ensures { result ≡ is_wanted self.now digest.now }
     {
-        !self.is_held(digest) && !self.needed.has(digest)
+        !self.is_held(digest) && (!self.needed.has(digest) && self.needed.count() < MOST_NEEDED)
     }
 
     /// The event of a digest, where it is held.

@@ -19,7 +19,7 @@ use Rattle.pws_msg.specs.declared.changes.NewView.{NewView}
 use Rattle.pws_msg.specs.declared.changes.PRow.{PRow}
 use Rattle.pws_msg.specs.declared.contents.Content.TheVariants as content
 use Rattle.pws_msg.specs.Contents.{IsContent}
-use Rattle.pws_msg.specs.Reported.{IsViewChange}
+use Rattle.pws_msg.specs.Reported.{IsViewChange, IsNewView}
 use Rattle.pws_msg.specs.Rows.{IsDigest, IsPRow}
 use Rattle.pws_change.specs.declared.heard.Heard.{Heard}
 use Rattle.pws_change.specs.declared.decisions.Decision.TheVariants.{Chosen}
@@ -30,14 +30,15 @@ use Rattle.pws_votes.specs.Votes.{Book}
 use Rattle.pws_protocol.specs.States.{State, Slot, HeldChange, Relayed, primary, new_slot}
 use Rattle.pws_protocol.specs.Gathered.{acks_for, had_of, with_had, all_had}
 use Rattle.pws_protocol.specs.Actions as act
+use Rattle.pws_protocol.specs.Actions.{next_enter}
 use Rattle.pws_protocol.specs.Doing.{did, placed_from, taken, slots_of, highest_of, entered}
 use Rattle.pws_voter_laws.specs.Enabled.{IsEnabled}
 use Rattle.pws_voter_laws.proofs.Fields.{book_fits}
 use Rattle.pws_voter_laws.proofs.Found.{nothing, same, guarded, then_is}
-use Rattle.pws_voter_laws.proofs.Parts.{IsPlace, Whole}
+use Rattle.pws_voter_laws.proofs.Parts.{IsPlace, AreVotes, AreOwn, Whole, in_window}
 use Rattle.pws_voter_laws.proofs.Resting.{with_book, enter_state}
-use Rattle.pws_voter_laws.proofs.Tests.{in_window, enter_is}
-use Rattle.pws_voter_laws.proofs.Updates.{AreVotes, book_with, votes_keep, votes_leave}
+use Rattle.pws_voter_laws.proofs.Tests.{enter_is}
+use Rattle.pws_voter_laws.proofs.Updates.{book_with, votes_keep, votes_own, votes_leave}
 
 -- what holds of all holds of each
 pub in_all : {X : Type 0} (P : X → Type 0) (xs : List X) (x : X) → All P xs → Contains xs x → P x
@@ -67,13 +68,23 @@ highest_in (y ∷ ys) x c = elim (first_or_rest y x ys c) [
   | inr r ↦ (let i = highest_in ys x r in omega (arith, i))
 ]
 
-taken_in : (s : State) (c : Choice) (x : ℕ × List ℕ) → Contains (taken s c) x → ((s.low < x.0) × (x.0 ≤ s.low + 32)) × (x.0 ≤ last_of c) × Contains c.chosen x.1
+pub taken_in : (s : State) (c : Choice) (x : ℕ × List ℕ) → Contains (taken s c) x → ((s.low < x.0) × (x.0 ≤ s.low + 32)) × (x.0 ≤ last_of c) × Contains c.chosen x.1
 unfolding taken
 taken_in s c x k =
     let r = filter_has (λ (y : ℕ × List ℕ). is_in_window s.low y.0 && not (is_full s.pre_prepared y.0 y.1)) (placed_from (c.place + 1) c.chosen) x k in
     let i = placed_in (c.place + 1) c.chosen x r.0 in
     let b = i.1 in
     (in_window s.low x.0 (and_parts (is_in_window s.low x.0) (not (is_full s.pre_prepared x.0 x.1)) r.1).0, omega (arith, b), i.2)
+
+highest_by : (k : ℕ) (xs : List (ℕ × List ℕ)) → ((x : ℕ × List ℕ) → Contains xs x → x.0 ≤ k) → highest_of xs ≤ k
+highest_by k [] each = omega arith
+highest_by k (x ∷ xs) each = let e = each x (here x xs) in let r = highest_by k xs (λ y c. each y (there x y xs c)) in omega (arith, e, r)
+
+highest_inside : (s : State) (c : Choice) → last_of c ≤ 1000000 → (highest_of (taken s c) ≤ s.low + 32) × (highest_of (taken s c) ≤ 1000000)
+highest_inside s c few = (
+  highest_by (s.low + 32) (taken s c) (λ x k. (taken_in s c x k).0.1),
+  highest_by 1000000 (taken s c) (λ x k. let l = (taken_in s c x k).1 in omega (arith, l, few)),
+)
 
 -- the slots of a choice, for a voter that was on the way and has what starts the view
 pub entered_fits : (s : State) (c : Choice) → Whole s → s.active ≡ false → (s.new_view ≡ None → ⊥) → last_of c ≤ 1000000 → ((d : List ℕ) → Contains c.chosen d → IsDigest d) → Whole (entered s c)
@@ -85,7 +96,11 @@ entered_fits s c f out there few long = record {
   book = f.book;
   votes = f.votes;
   numbers = f.numbers;
+  own_votes = f.own_votes;
   waited = f.waited;
+  marks = (let h = highest_inside s c few in (few, h.0, h.1));
+  acks = f.acks;
+  needed = f.needed;
   low = f.low;
   pending = λ p e h. absurd (nothing e (sym (get-empty nat_cmp p) ∙ subst (λ m. get m p ≡ Some e) (f.way out).1 h));
   slots = λ p t h.
@@ -177,17 +192,31 @@ module _ (s : State) (f : Whole s) where
         | inr x ↦ all_in ns w.1 w.3 h x
       ]
 
-pub entered_book : (s : State) (c : Choice) (b : Book) → Whole (entered s c) → b.f ≡ s.book.f → b.low ≡ s.book.low → AreVotes b → Whole (with_book (entered s c) b)
+pub entered_book : (s : State) (c : Choice) (b : Book) → Whole (entered s c) → b.f ≡ s.book.f → b.low ≡ s.book.low → AreVotes b → AreOwn s.me.index s.chains b → Whole (with_book (entered s c) b)
 unfolding entered
-entered_book s c b f x y v = book_fits _ f b x y v
+entered_book s c b f x y v own = book_fits _ f b x y v own
+
+-- each digest that is accepted may be voted for
+pub taken_fine : (s : State) (c : Choice) → last_of c ≤ 1000000 → All IsDigest c.chosen → (x : ℕ × List ℕ) → Contains (taken s c) x → (x.0 ≤ 1000000) × IsDigest x.1
+taken_fine s c few long x k = let i = taken_in s c x k in let l = i.1 in (omega (arith, l, few), in_all IsDigest c.chosen x.1 long i.2)
+
+-- what starts the view is in range, and its last place is a number
+pub entered_told : (s : State) → Whole s → (v : NewView) → s.new_view ≡ Some v → IsNewView v
+entered_told s f v h = (subst (λ (x : Option NewView). IfSome x (λ v. (v.view ≡ s.view) × IsContent (content.NewView v))) h f.new_view).1
+
+pub entered_last : (s : State) → Whole s → (v : NewView) → next_enter s ≡ Some v → last_of v.choice ≤ 1000000
+entered_last s f v h =
+    let o = enter_is s v h in
+    let hs = o.2.0 in
+    let agreed = (agrees_is_tested s.me.f v hs).0 o.2.2 in
+    last_few s.me.f hs v.choice agreed.choice (all_in s f v.named hs o.2.1) (entered_told s f v o.1).place
 
 pub enter_fits : (s : State) (asked : Counters) (v : NewView) → Whole s → IsEnabled s asked (act.Enter v) → Whole (did s (act.Enter v)).state
 enter_fits s asked v f h =
     let o = enter_is s v h in
-    let hs = o.2.0 in
-    let agreed = (agrees_is_tested s.me.f v hs).0 o.2.2 in
-    let told : (v.view ≡ s.view) × IsContent (content.NewView v) = subst (λ (x : Option NewView). IfSome x (λ v. (v.view ≡ s.view) × IsContent (content.NewView v))) o.1 f.new_view in
-    let few = last_few s.me.f hs v.choice agreed.choice (all_in s f v.named hs o.2.1) told.1.place in
-    let e = entered_fits s v.choice f o.0 (λ n. nothing v (sym n ∙ o.1)) few (λ d c. in_all IsDigest v.choice.chosen d told.1.chosen c) in
+    let told = entered_told s f v o.1 in
+    let few = entered_last s f v h in
+    let e = entered_fits s v.choice f o.0 (λ n. nothing v (sym n ∙ o.1)) few (λ d c. in_all IsDigest v.choice.chosen d told.chosen c) in
     let b = votes_leave s.me.index s.book (taken s v.choice) in
-    subst Whole (sym (enter_state s v)) (entered_book s v.choice (book_with s.me.index s.book (taken s v.choice)) e b.0 b.1 (votes_keep s.me.index s.book (taken s v.choice) f.votes))
+    let each = taken_fine s v.choice few told.chosen in
+    subst Whole (sym (enter_state s v)) (entered_book s v.choice (book_with s.me.index s.book (taken s v.choice)) e b.0 b.1 (votes_keep s.me.index s.book (taken s v.choice) each f.votes) (votes_own s.me.index s.chains s.book (taken s v.choice) f.own_votes))

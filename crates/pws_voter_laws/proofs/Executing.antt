@@ -51,6 +51,11 @@ module _ (s : State) (f : Whole s) (e : Event) (few : s.done + 1 ≤ 1000000) (n
   ]
   chain_by false q p d h = old_chain p d h
 
+  -- a chain that was there stays
+  chain_stays : (b : Bool) (p : ℕ) (d : List ℕ) → get s.chains p ≡ Some d → get (chains_by b) p ≡ Some d
+  chain_stays true p d h = let u = (f.chains p d h).1 in put_other nat_cmp_total nat_cmp-IsAntisymmetric s.chains (s.done + 1) p (next_chain s e) (λ y. omega (arith, u, y)) ∙ h
+  chain_stays false p d h = h
+
   executed_fits : Whole (did_execute s e).state
   unfolding did_execute executed
   executed_fits = record {
@@ -60,7 +65,11 @@ module _ (s : State) (f : Whole s) (e : Event) (few : s.done + 1 ≤ 1000000) (n
     book = f.book;
     votes = f.votes;
     numbers = (f.numbers.0, few, omega arith);
+    own_votes = λ p d h. chain_stays ((s.done + 1) % 16 == 0) p d (f.own_votes p d h);
     waited = omega arith;
+    marks = f.marks;
+    acks = f.acks;
+    needed = f.needed;
     low = ((let l = f.low.0 in omega (arith, l)), near, f.low.2);
     pending = f.pending;
     slots = f.slots;

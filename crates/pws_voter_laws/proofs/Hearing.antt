@@ -19,8 +19,10 @@ use Rattle.pws_event.specs.declared.events.Event.TheVariants as event
 use Rattle.pws_event.specs.Events.{IsEvent, digest_of}
 use Rattle.pws_event.specs.Counters.{Counters}
 use Rattle.pws_msg.specs.Contents.{IsContent, content_digest_of}
+use Rattle.pws_msg.specs.Packets.{IsTags}
 use Rattle.pws_msg.specs.Reported.{IsViewChange, IsNewView}
-use Rattle.pws_msg.specs.Statements.{ProposalFields, IsProposal, ChangeNameFields, DecidedEventFields, IsDecidedEvent}
+use Rattle.pws_msg.specs.Rows.{IsDigest}
+use Rattle.pws_msg.specs.Statements.{ProposalFields, IsProposal, ChangeNameFields, IsChangeName, DecidedEventFields, IsDecidedEvent}
 use Rattle.pws_msg.specs.declared.changes.NewView.{NewView}
 use Rattle.pws_msg.specs.declared.changes.ViewChange.{ViewChange}
 use Rattle.pws_msg.specs.declared.contents.Content.{Content}
@@ -39,10 +41,10 @@ use Rattle.pws_protocol.specs.Hearing.{Vouched, SaidFields, Answered, voted_as, 
 use Rattle.pws_protocol.specs.Reactions.{after_packet, tidied}
 use Rattle.pws_protocol.specs.Fits.{IsVouched, is_from_outside}
 use Rattle.pws_voter_laws.proofs.Evidencing.{noted_fits}
-use Rattle.pws_voter_laws.proofs.Fields.{exact_digests, vote_fits, acks_fits, texts_fits, tidied_fits}
+use Rattle.pws_voter_laws.proofs.Fields.{exact_digests, vote_fits, acks_fits, more_acks, texts_fits, tidied_fits}
 use Rattle.pws_voter_laws.proofs.Found.{nothing}
-use Rattle.pws_voter_laws.proofs.Parts.{IsPlace, Whole}
-use Rattle.pws_voter_laws.proofs.Tests.{eq_is, ne_is, not_true, in_window}
+use Rattle.pws_voter_laws.proofs.Parts.{IsPlace, Whole, in_window}
+use Rattle.pws_voter_laws.proofs.Tests.{eq_is, ne_is, not_true}
 
 none_is : {X : Type 0} (o : Option X) → is_some o ≡ false → o ≡ None
 none_is None h = refl
@@ -63,9 +65,9 @@ module _ (s : State) (f : Whole s) where
   voted_fits vote.Outside t h = f
   voted_fits vote.Already t h = f
 
-  book_row : (b : Bool) (k : Key) (d : List ℕ) → Whole (if b then keep_in_book s k d else unkept s vote.Outside).state
-  book_row true k d = voted_fits (answer_to s.book k) (record s { book = after_vote s.book k d }) (vote_fits s f k d)
-  book_row false k d = f
+  book_row : (b : Bool) (k : Key) (d : List ℕ) → k.place ≤ 1000000 → IsDigest d → (k.voter ≡ s.me.index → ⊥) → Whole (if b then keep_in_book s k d else unkept s vote.Outside).state
+  book_row true k d few long other = voted_fits (answer_to s.book k) (record s { book = after_vote s.book k d }) (vote_fits s f k d few long (λ p e. absurd (other (ap (λ (q : Key). q.voter) (sym e)))))
+  book_row false k d few long other = f
 
   evidence_row : (asked : Counters) (r : ReplicaId) (c : Content) (body : List ℕ) → IsContent c → length body ≤ 32768 → Whole (keep_evidence s asked r c body).state
   unfolding keep_evidence
@@ -93,7 +95,11 @@ module _ (s : State) (f : Whole s) where
         book = f.book;
         votes = f.votes;
         numbers = f.numbers;
+        own_votes = f.own_votes;
         waited = f.waited;
+        marks = f.marks;
+        acks = f.acks;
+        needed = f.needed;
         low = f.low;
         pending = λ p y m. elim (put_cases nat_cmp_total nat_cmp-IsAntisymmetric s.pending x.place p x.event y m) [
           | inl z ↦ (
@@ -124,9 +130,9 @@ module _ (s : State) (f : Whole s) where
         alone_held = f.alone_held;
       })
 
-  change_row : (i : ℕ) (c : ViewChange) (tags : List (List ℕ)) → IsViewChange c → (i < size_of_group s.me.f) × (i ≡ s.me.index → ⊥) → Whole (keep_change s i c tags).state
+  change_row : (i : ℕ) (c : ViewChange) (tags : List (List ℕ)) → IsViewChange c → IsTags tags → (i < size_of_group s.me.f) × (i ≡ s.me.index → ⊥) → Whole (keep_change s i c tags).state
   unfolding keep_change
-  change_row i c tags r from =
+  change_row i c tags r marked from =
       let new : HeldChange = record { digest = content_digest_of (content.ViewChange c); change = c; tags = tags } in
       row_fits (record s { heard = insert s.heard i new }) (fits_change s c) (option_map_or (λ h. nat_lt h.change.view c.view) (get s.heard i) true) (λ h k.
       let a = and_parts (not (is_alone s)) _ h in
@@ -140,7 +146,11 @@ module _ (s : State) (f : Whole s) where
         book = f.book;
         votes = f.votes;
         numbers = f.numbers;
+        own_votes = f.own_votes;
         waited = f.waited;
+        marks = f.marks;
+        acks = f.acks;
+        needed = f.needed;
         low = f.low;
         pending = f.pending;
         slots = f.slots;
@@ -160,6 +170,7 @@ module _ (s : State) (f : Whole s) where
             subst (λ (y : HeldChange). IsValid y.change) z.1 valid,
             subst (λ (y : HeldChange). IsContent (content.ViewChange y.change)) z.1 r,
             subst (λ (y : HeldChange). y.digest ≡ content_digest_of (content.ViewChange y.change)) z.1 refl,
+            subst (λ (y : HeldChange). IsTags y.tags) z.1 marked,
           )
           | inr z ↦ f.heard j y z
         ];
@@ -170,12 +181,12 @@ module _ (s : State) (f : Whole s) where
         alone_held = λ z. absurd (many z);
       })
 
-  ack_row : (i : ℕ) (x : ChangeNameFields) → Whole (keep_ack s i x).state
+  ack_row : (i : ℕ) (x : ChangeNameFields) → IsChangeName x → i < size_of_group s.me.f → Whole (keep_ack s i x).state
   unfolding keep_ack
-  ack_row i x = row_fits (record s { acks = insert s.acks i (insert (acks_of s i) x.index x.digest) }) (fits_ack s i x) (not (is_some (ack_at s i x.index))) (λ h k.
+  ack_row i x r member = row_fits (record s { acks = insert s.acks i (insert (acks_of s i) x.index x.digest) }) (fits_ack s i x) (not (is_some (ack_at s i x.index))) (λ h k.
       let a = and_parts (x.view == s.view) _ h in
       let b = and_parts (not s.active) _ a.1 in
-      acks_fits s f (insert s.acks i (insert (acks_of s i) x.index x.digest)) (not_alone (not_true _ b.0)))
+      acks_fits s f (insert s.acks i (insert (acks_of s i) x.index x.digest)) (more_acks s f i x.index x.digest member (let q = r.index in omega (arith, q)) r.digest) (not_alone (not_true _ b.0)))
 
   new_view_row : (i : ℕ) (x : NewView) → IsNewView x → Whole (keep_new_view s i x).state
   unfolding keep_new_view
@@ -189,7 +200,11 @@ module _ (s : State) (f : Whole s) where
         book = f.book;
         votes = f.votes;
         numbers = f.numbers;
+        own_votes = f.own_votes;
         waited = f.waited;
+        marks = f.marks;
+        acks = f.acks;
+        needed = f.needed;
         low = f.low;
         pending = f.pending;
         slots = f.slots;
@@ -211,9 +226,9 @@ module _ (s : State) (f : Whole s) where
         alone_held = λ z. absurd (not_alone (not_true _ b.0) z);
       })
 
-  relayed_row : (x : ChangeNameFields) (h : Vouched) (c : ViewChange) → IsViewChange c → Whole (keep_relayed s x h c).state
+  relayed_row : (x : ChangeNameFields) (h : Vouched) (c : ViewChange) → IsViewChange c → IsTags h.voucher.tags → Whole (keep_relayed s x h c).state
   unfolding keep_relayed
-  relayed_row x h c r =
+  relayed_row x h c r marked =
       let new : Relayed = record { digest = x.digest; change = c; tags = h.voucher.tags; is_verified = h.is_verified } in
       row_fits (record s { relayed = insert s.relayed x.index new }) (fits_relay s x h.voucher c) (not (contains_key s.relayed x.index)) (λ q k.
       let a = and_parts (x.view == s.view) _ q in
@@ -231,7 +246,11 @@ module _ (s : State) (f : Whole s) where
         book = f.book;
         votes = f.votes;
         numbers = f.numbers;
+        own_votes = f.own_votes;
         waited = f.waited;
+        marks = f.marks;
+        acks = f.acks;
+        needed = f.needed;
         low = f.low;
         pending = f.pending;
         slots = f.slots;
@@ -254,6 +273,7 @@ module _ (s : State) (f : Whole s) where
             subst (λ (y : Relayed). IsContent (content.ViewChange y.change)) z.1 r,
             subst (λ (y : Relayed). y.digest ≡ content_digest_of (content.ViewChange y.change)) z.1 (sym ((bytes_eq-Decides (content_digest_of (content.ViewChange c)) x.digest).0 n.0)),
             subst (λ (y : Relayed). y.change.view ≡ s.view) z.1 (eq_is c.view x.view m.0 ∙ eq_is x.view s.view a.0),
+            subst (λ (y : Relayed). IsTags y.tags) z.1 marked,
           )
           | inr z ↦ f.relayed j y z
         ];
@@ -262,13 +282,13 @@ module _ (s : State) (f : Whole s) where
         alone_held = λ z. absurd (not_alone (not_true _ b.0) z);
       })
 
-  voucher_row : (x : ChangeNameFields) (h : Vouched) (c : Content) → IsContent c → Whole (keep_voucher s x h c).state
-  voucher_row x h (content.ViewChange c) r = relayed_row x h c r
-  voucher_row x h _ r = f
+  voucher_row : (x : ChangeNameFields) (h : Vouched) (c : Content) → IsContent c → IsTags h.voucher.tags → Whole (keep_voucher s x h c).state
+  voucher_row x h (content.ViewChange c) r marked = relayed_row x h c r marked
+  voucher_row x h _ r marked = f
 
   relay_row : (x : ChangeNameFields) (hs : List Vouched) → All (IsVouched s) hs → Whole (keep_relay s x (slice_get hs 0)).state
   relay_row x [] a = f
-  relay_row x (h ∷ hs) a = voucher_row x h h.voucher.content (a 0 h (omega arith)).content
+  relay_row x (h ∷ hs) a = let v = a 0 h (omega arith) in voucher_row x h h.voucher.content v.content v.tags
 
   done_row : (i : ℕ) (x : DecidedEventFields) → IsDecidedEvent x → (i < size_of_group s.me.f) × (i ≡ s.me.index → ⊥) → Whole (keep_done s i x).state
   unfolding keep_done
@@ -285,7 +305,11 @@ module _ (s : State) (f : Whole s) where
         book = f.book;
         votes = f.votes;
         numbers = f.numbers;
+        own_votes = f.own_votes;
         waited = f.waited;
+        marks = f.marks;
+        acks = f.acks;
+        needed = f.needed;
         low = f.low;
         pending = f.pending;
         slots = f.slots;
@@ -335,25 +359,25 @@ module _ (s : State) (f : Whole s) where
   give_row None = f
   give_row (Some x) = f
 
-  content_row : (asked : Counters) (x : SaidFields) (c : Content) → IsContent c → (is_from_outside c ≡ false → IsFrom s.me x.sender) → length (unwrap_or x.body []) ≤ 32768 → All (IsVouched s) x.vouchers → Whole (keep s asked x c).state
+  content_row : (asked : Counters) (x : SaidFields) (c : Content) → IsContent c → IsTags x.tags → (is_from_outside c ≡ false → IsFrom s.me x.sender) → length (unwrap_or x.body []) ≤ 32768 → All (IsVouched s) x.vouchers → Whole (keep s asked x c).state
   unfolding keep keep_prepare keep_commit keep_checkpoint
-  content_row asked x (content.Request r) i from short vouched = evidence_row asked x.sender (content.Request r) (unwrap_or x.body []) i short
-  content_row asked x (content.Reply r) i from short vouched = evidence_row asked x.sender (content.Reply r) (unwrap_or x.body []) i short
-  content_row asked x (content.Part r) i from short vouched = f
-  content_row asked x (content.Expired n) i from short vouched = evidence_row asked x.sender (content.Expired n) [] i (omega arith)
-  content_row asked x (content.Reading r) i from short vouched = evidence_row asked x.sender (content.Reading r) [] i (omega arith)
-  content_row asked x (content.PrePrepare p) i from short vouched = proposal_row x.sender.index p i
-  content_row asked x (content.Prepare v) i from short vouched = book_row (v.view == s.view && not (x.sender.index == primary s)) (key kind.Prepare v.place x.sender.index) v.digest
-  content_row asked x (content.Commit v) i from short vouched = book_row (v.view == s.view) (key kind.Commit v.place x.sender.index) v.digest
-  content_row asked x (content.Checkpoint d) i from short vouched = book_row (d.place % checkpoint_distance == 0) (key kind.Checkpoint d.place x.sender.index) d.digest
-  content_row asked x (content.ViewChange c) i from short vouched = change_row x.sender.index c x.tags i (from refl)
-  content_row asked x (content.Ack n) i from short vouched = ack_row x.sender.index n
-  content_row asked x (content.NewView v) i from short vouched = new_view_row x.sender.index v i
-  content_row asked x (content.Relay n) i from short vouched = relay_row n x.vouchers vouched
-  content_row asked x (content.Fetch w) i from short vouched = f
-  content_row asked x (content.Done d) i from short vouched = done_row x.sender.index d i (from refl)
-  content_row asked x (content.Need digest) i from short vouched = give_row (text_of s digest)
-  content_row asked x (content.Give e) i from short vouched = text_row e i
+  content_row asked x (content.Request r) i marked from short vouched = evidence_row asked x.sender (content.Request r) (unwrap_or x.body []) i short
+  content_row asked x (content.Reply r) i marked from short vouched = evidence_row asked x.sender (content.Reply r) (unwrap_or x.body []) i short
+  content_row asked x (content.Part r) i marked from short vouched = f
+  content_row asked x (content.Expired n) i marked from short vouched = evidence_row asked x.sender (content.Expired n) [] i (omega arith)
+  content_row asked x (content.Reading r) i marked from short vouched = evidence_row asked x.sender (content.Reading r) [] i (omega arith)
+  content_row asked x (content.PrePrepare p) i marked from short vouched = proposal_row x.sender.index p i
+  content_row asked x (content.Prepare v) i marked from short vouched = book_row (v.view == s.view && not (x.sender.index == primary s)) (key kind.Prepare v.place x.sender.index) v.digest i.place_to i.digest (from refl).1
+  content_row asked x (content.Commit v) i marked from short vouched = book_row (v.view == s.view) (key kind.Commit v.place x.sender.index) v.digest i.place_to i.digest (from refl).1
+  content_row asked x (content.Checkpoint d) i marked from short vouched = book_row (d.place % checkpoint_distance == 0) (key kind.Checkpoint d.place x.sender.index) d.digest i.place_to i.digest (from refl).1
+  content_row asked x (content.ViewChange c) i marked from short vouched = change_row x.sender.index c x.tags i marked (from refl)
+  content_row asked x (content.Ack n) i marked from short vouched = ack_row x.sender.index n i (from refl).0
+  content_row asked x (content.NewView v) i marked from short vouched = new_view_row x.sender.index v i
+  content_row asked x (content.Relay n) i marked from short vouched = relay_row n x.vouchers vouched
+  content_row asked x (content.Fetch w) i marked from short vouched = f
+  content_row asked x (content.Done d) i marked from short vouched = done_row x.sender.index d i (from refl)
+  content_row asked x (content.Need digest) i marked from short vouched = give_row (text_of s digest)
+  content_row asked x (content.Give e) i marked from short vouched = text_row e i
 
 vouched_fits : (asked : Counters) (body : List ℕ) (a : Answered) (h : Vouched) → length body ≤ 32768 → IsContent h.voucher.content → Whole a.state → Whole (keep_vouched asked body a h).state
 vouched_fits asked body a h short i f = by h.is_verified
@@ -368,13 +392,13 @@ vouchers_fit asked body (h ∷ hs) a short i f =
     vouchers_fit asked body hs (keep_vouched asked body a h) short (λ k d l. i (suc k) d (omega (arith, l))) (vouched_fits asked body a h short (i 0 h (omega arith)) f)
 
 -- a whole packet
-pub packet_fits : (s : State) (asked : Counters) (x : SaidFields) → Whole s → IsContent x.content → (is_from_outside x.content ≡ false → IsFrom s.me x.sender) → length (unwrap_or x.body []) ≤ 32768 → All (IsVouched s) x.vouchers → Whole (heard s asked x).state
+pub packet_fits : (s : State) (asked : Counters) (x : SaidFields) → Whole s → IsContent x.content → IsTags x.tags → (is_from_outside x.content ≡ false → IsFrom s.me x.sender) → length (unwrap_or x.body []) ≤ 32768 → All (IsVouched s) x.vouchers → Whole (heard s asked x).state
 unfolding heard
-packet_fits s asked x f i from short vouched = by (are_heard x.content)
+packet_fits s asked x f i marked from short vouched = by (are_heard x.content)
   where
     by : (b : Bool) → Whole (if b then fold (keep_vouched asked (unwrap_or x.body [])) (keep s asked x x.content) x.vouchers else keep s asked x x.content).state
-    by true = vouchers_fit asked (unwrap_or x.body []) x.vouchers (keep s asked x x.content) short (λ k d l. (vouched k d l).content) (content_row s f asked x x.content i from short vouched)
-    by false = content_row s f asked x x.content i from short vouched
+    by true = vouchers_fit asked (unwrap_or x.body []) x.vouchers (keep s asked x x.content) short (λ k d l. (vouched k d l).content) (content_row s f asked x x.content i marked from short vouched)
+    by false = content_row s f asked x x.content i marked from short vouched
 
 pub after_fits : (a : Answered) → Whole a.state → Whole (after_packet a).reaction.state
 after_fits a f = by a.is_kept

@@ -20,6 +20,7 @@ pub mod Parts
 pub mod Preparing
 pub mod Proposing
 pub mod Resting
+pub mod Rooms
 pub mod Staying
 pub mod Tests
 pub mod Ticking

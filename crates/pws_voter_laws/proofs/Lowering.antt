@@ -9,14 +9,16 @@ use Rattle.pws_base.specs.Shapes.{size_of_group}
 use Rattle.pws_base.proofs.Maps.{retain_cases, retain_kept}
 use Rattle.pws_event.specs.Counters.{Counters}
 use Rattle.pws_change.specs.Sets.{trimmed}
+use Rattle.pws_votes.specs.declared.kinds.VoteKind.TheVariants as kind
+use Rattle.pws_votes.specs.Votes.{key}
 use Rattle.pws_votes.proofs.VoteLemmas.{keys_are_ordered}
 use Rattle.pws_protocol.specs.States.{State}
 use Rattle.pws_protocol.specs.Actions as act
 use Rattle.pws_protocol.specs.Doing.{did, did_stable}
 use Rattle.pws_voter_laws.specs.Enabled.{IsEnabled}
 use Rattle.pws_voter_laws.proofs.Found.{nothing}
-use Rattle.pws_voter_laws.proofs.Parts.{Whole}
-use Rattle.pws_voter_laws.proofs.Tests.{in_window, stable_is_open}
+use Rattle.pws_voter_laws.proofs.Parts.{Whole, in_window}
+use Rattle.pws_voter_laws.proofs.Tests.{stable_is_open}
 
 -- of nothing nothing is kept
 none_of : {X : Type 0} (o : Option X) → ((x : X) → o ≡ Some x → ⊥) → o ≡ None
@@ -48,12 +50,20 @@ stable_fits s asked p f h =
       book = (f.book.0, refl);
       votes = λ k d h.
           let r = retain_cases keys_are_ordered.exact s.book.votes (λ k. nat_lt p k.place) k d h in
-          let a = and_parts (nat_lt k.voter (size_of_group s.book.f)) (is_in_window s.book.low k.place) (f.votes k d r.1) in
+          let v = f.votes k d r.1 in
+          let a = and_parts (nat_lt k.voter (size_of_group s.book.f)) (is_in_window s.book.low k.place) v.0 in
           let w = (in_window s.book.low k.place a.1).1 in
           let b = f.book.1 in
-          and_from (nat_lt k.voter (size_of_group s.book.f)) (is_in_window p k.place) a.0 (and_from (nat_lt p k.place) (nat_le k.place (p + 32)) r.0 (le-leb k.place (p + 32) (omega (arith, w, b, up))));
+          (and_from (nat_lt k.voter (size_of_group s.book.f)) (is_in_window p k.place) a.0 (and_from (nat_lt p k.place) (nat_le k.place (p + 32)) r.0 (le-leb k.place (p + 32) (omega (arith, w, b, up)))), v.1, v.2);
       numbers = f.numbers;
+      own_votes = λ q d h.
+          let r = retain_cases keys_are_ordered.exact s.book.votes (λ k. nat_lt p k.place) (key kind.Checkpoint q s.me.index) d h in
+          let a = ltb-true p q r.0 in
+          retain_kept nat_cmp-IsAntisymmetric s.chains (nat_le p) q (le-leb p q (omega (arith, a))) ∙ f.own_votes q d r.1;
       waited = f.waited;
+      marks = (f.marks.0, (let x = f.marks.1 in omega (arith, x, up)), f.marks.2);
+      acks = f.acks;
+      needed = f.needed;
       low = (down, omega (arith, far, up), at.2);
       pending = λ q e k.
           let r = above p s.pending q e k in

@@ -1,5 +1,5 @@
 -- What fits before a move to another view fits after it: what the voter reports as it moves is valid, and may be sent.
-use Rattle.std.proofs.Common.{◌≡◌, inl, inr, ℕ, ◌+◌, ◌%◌, ◌<◌, ◌≤◌, ◌==◌, ◌||◌, not, nat_lt, nat_le, true, T, List, [], ◌∷◌, map, length, replicate, Some, Contains, All, refl, sym, ◌∙◌, ap, subst, arith}
+use Rattle.std.proofs.Common.{◌≡◌, inl, inr, ℕ, ◌+◌, ◌%◌, ◌<◌, ◌≤◌, ◌==◌, ◌||◌, not, nat_lt, true, T, List, [], ◌∷◌, map, length, replicate, Some, Contains, All, refl, sym, ◌∙◌, ap, subst, arith}
 use Rattle.std.specs.List.{list_all}
 use Rattle.std.specs.Ordering.{nat_cmp, is_lt}
 use Rattle.std.specs.Str.{bytes_eq}
@@ -21,6 +21,7 @@ use Rattle.pws_msg.specs.declared.changes.Seen.{Seen}
 use Rattle.pws_msg.specs.declared.changes.ViewChange.{ViewChange}
 use Rattle.pws_msg.specs.declared.contents.Content.TheVariants as content
 use Rattle.pws_msg.specs.Contents.{IsContent, content_digest_of}
+use Rattle.pws_msg.specs.Packets.{IsTags}
 use Rattle.pws_msg.specs.Reported.{IsViewChange}
 use Rattle.pws_msg.specs.Rows.{IsDigest, IsCheckpoint}
 use Rattle.pws_change.specs.Rising.{rises}
@@ -30,13 +31,14 @@ use Rattle.pws_change.specs.Valid.{IsValid, begins_at, is_checkpoint_valid, are_
 use Rattle.pws_change.proofs.Placed.{lt_is, true_of}
 use Rattle.pws_change.proofs.RowLemmas.{p_row_get, q_row_get, rows_rise, p_rows_rise, q_rows_rise, seen_rise}
 use Rattle.pws_change.proofs.Sending.{valid_may_be_sent}
-use Rattle.pws_votes.specs.Votes.{is_checkpoint}
+use Rattle.pws_votes.specs.declared.kinds.VoteKind.TheVariants as kind
+use Rattle.pws_votes.specs.Votes.{key, is_checkpoint}
 use Rattle.pws_votes.proofs.VoteLemmas.{keys_are_ordered}
 use Rattle.pws_protocol.specs.States.{State, HeldChange, window}
 use Rattle.pws_protocol.specs.Doing.{did_move, reported, with_change, own_change, left_view, noted, noted_p, noted_q}
 use Rattle.pws_voter_laws.proofs.Found.{nothing}
 use Rattle.pws_voter_laws.proofs.Noting.{p_fits, q_fits}
-use Rattle.pws_voter_laws.proofs.Parts.{IsPlace, Whole}
+use Rattle.pws_voter_laws.proofs.Parts.{IsPlace, place_inside, Whole}
 
 -- the checkpoints that are reported
 abbrev point : ℕ × List ℕ → Checkpoint
@@ -75,8 +77,9 @@ zeros p d h =
       | inr n ↦ ap (λ b. not b || bytes_eq d (replicate 32 0)) (ne_eqb p 0 n)
     ]
 
-in_window : (low p : ℕ) → IsPlace low p → is_in_window low p ≡ true
-in_window low p i = and_from (nat_lt low p) (nat_le p (low + 32)) (lt-ltb low p i.0) (le-leb p (low + 32) i.1)
+-- no tags are few
+no_tags : IsTags []
+no_tags = record { few = omega arith; each = λ k d l. absurd (omega (arith, l)) }
 
 module _ (s : State) (f : Whole s) (w : ℕ) (later : s.view < w) (few : w ≤ 1000000) where
   abbrev P : Prepared
@@ -96,7 +99,7 @@ module _ (s : State) (f : Whole s) (w : ℕ) (later : s.view < w) (few : w ≤ 1
       (all_pass (is_p_row_valid s.low w) (p_rows P) (λ r c.
       let x = p_fine r.place r.digest r.view (p_row_get P r c) in
       let v = x.1 in
-      and_from (is_in_window s.low r.place) (nat_lt r.view w) (in_window s.low r.place x.0) (lt-ltb r.view w (omega (arith, v, later)))))
+      and_from (is_in_window s.low r.place) (nat_lt r.view w) (place_inside s.low r.place x.0) (lt-ltb r.view w (omega (arith, v, later)))))
       (p_rows_rise P)
 
   q_valid : are_q_rows_valid s.low w (q_rows Q) ≡ true
@@ -113,7 +116,7 @@ module _ (s : State) (f : Whole s) (w : ℕ) (later : s.view < w) (few : w ≤ 1
       let from = y.1 in
       let to = y.2 in
       let digests : are_digests_valid w (seen_of x.0) ≡ true = and_from _ _ (and_from _ _ (and_from _ _ (le-leb 1 (length (seen_of x.0)) (omega (arith, size, from))) (le-leb (length (seen_of x.0)) 16 (omega (arith, size, to)))) views) (seen_rise x.0) in
-      and_from (is_in_window s.low r.place) (are_digests_valid w r.digests) (in_window s.low r.place y.0) (subst (λ ds. are_digests_valid w ds ≡ true) (sym x.2) digests)))
+      and_from (is_in_window s.low r.place) (are_digests_valid w r.digests) (place_inside s.low r.place y.0) (subst (λ ds. are_digests_valid w ds ≡ true) (sym x.2) digests)))
       (q_rows_rise Q)
 
   lowest : (d : List ℕ) × (get s.chains s.low ≡ Some d)
@@ -167,7 +170,7 @@ module _ (s : State) (f : Whole s) (w : ℕ) (later : s.view < w) (few : w ≤ 1
         ));
   }
 
-  in_range : IsViewChange change
+  pub in_range : IsViewChange change
   in_range = valid_may_be_sent change valid bounded
 
   abbrev held : HeldChange
@@ -182,7 +185,11 @@ module _ (s : State) (f : Whole s) (w : ℕ) (later : s.view < w) (few : w ≤ 1
     book = f.book;
     votes = λ k d h. f.votes k d (retain_cases keys_are_ordered.exact s.book.votes (λ k. is_checkpoint k.kind) k d h).1;
     numbers = (few, f.numbers.1, (let m = f.numbers.2 in omega (arith, m, later)));
+    own_votes = λ p d h. f.own_votes p d (retain_cases keys_are_ordered.exact s.book.votes (λ k. is_checkpoint k.kind) (key kind.Checkpoint p s.me.index) d h).1;
     waited = omega arith;
+    marks = (f.marks.0, omega arith, omega arith);
+    acks = λ i row h. absurd (nothing row (sym (get-empty nat_cmp i) ∙ h));
+    needed = f.needed;
     low = f.low;
     pending = λ p e h. absurd (nothing e (sym (get-empty nat_cmp p) ∙ h));
     slots = λ p t h. absurd (nothing t (sym (get-empty nat_cmp p) ∙ h));
@@ -202,6 +209,7 @@ module _ (s : State) (f : Whole s) (w : ℕ) (later : s.view < w) (few : w ≤ 1
         subst (λ (c : HeldChange). IsValid c.change) x.1 valid,
         subst (λ (c : HeldChange). IsContent (content.ViewChange c.change)) x.1 in_range,
         subst (λ (c : HeldChange). c.digest ≡ content_digest_of (content.ViewChange c.change)) x.1 refl,
+        subst (λ (c : HeldChange). IsTags c.tags) x.1 no_tags,
       )
       | inr x ↦ f.heard j c x
     ];

@@ -19,13 +19,14 @@ use Rattle.pws_msg.specs.declared.changes.NewView.{NewView}
 use Rattle.pws_msg.specs.declared.changes.ViewChange.{ViewChange}
 use Rattle.pws_msg.specs.declared.contents.Content.TheVariants as content
 use Rattle.pws_msg.specs.Contents.{IsContent, content_text, content_digest_of}
+use Rattle.pws_msg.specs.Packets.{IsTags}
 use Rattle.pws_msg.specs.Reported.{IsViewChange, IsNewView}
 use Rattle.pws_msg.specs.Rows.{IsDigest}
 use Rattle.pws_change.specs.declared.heard.Heard.{Heard}
 use Rattle.pws_change.specs.declared.decisions.Decision.{Decision}
 use Rattle.pws_change.specs.declared.decisions.Decision.TheVariants.{Chosen}
 use Rattle.pws_change.specs.Agreements.{Agrees, name_of}
-use Rattle.pws_change.specs.Choices.{IsChoice}
+use Rattle.pws_change.specs.Choices.{IsChoice, last_of}
 use Rattle.pws_change.specs.Decisions.{decision_of}
 use Rattle.pws_change.specs.Rising.{rises}
 use Rattle.pws_change.specs.SendingLaws.{WasSent}
@@ -33,16 +34,16 @@ use Rattle.pws_change.specs.Valid.{IsValid}
 use Rattle.pws_change.proofs.Deciding.{decision_is_choice}
 use Rattle.pws_change.proofs.Sending.{agreed_may_be_sent}
 use Rattle.pws_protocol.specs.States.{State, HeldChange, Relayed, members}
-use Rattle.pws_protocol.specs.Gathered.{counted, counted_at}
+use Rattle.pws_protocol.specs.Gathered.{counted, counted_at, possible_choice}
 use Rattle.pws_protocol.specs.Actions as act
-use Rattle.pws_protocol.specs.Actions.{next_offer}
+use Rattle.pws_protocol.specs.Actions.{next_need_chosen}
 use Rattle.pws_protocol.specs.Doing.{did, did_offer, with_offer, entered}
 use Rattle.pws_voter_laws.specs.Enabled.{IsEnabled}
 use Rattle.pws_voter_laws.proofs.Entering.{in_all, last_few, entered_fits}
 use Rattle.pws_voter_laws.proofs.Found.{nothing, same, guarded, then_is, mapped, in_range}
 use Rattle.pws_voter_laws.proofs.Parts.{Whole}
 use Rattle.pws_voter_laws.proofs.Resting.{chosen_by}
-use Rattle.pws_voter_laws.proofs.Tests.{eq_is, ne_is, member_in, choice_is, offer_is}
+use Rattle.pws_voter_laws.proofs.Tests.{eq_is, ne_is, member_in, choice_is, need_chosen_is, offer_is}
 
 -- indices that a filtered map takes from a range rise
 module _ (g : ℕ → Option Heard) (own : (j : ℕ) (h : Heard) → g j ≡ Some h → h.index ≡ j) where
@@ -110,28 +111,28 @@ module _ (s : State) (f : Whole s) where
       let few = f.who.1 in
       (omega (arith, l, few), subst IsDigest (sym (x.3 ∙ y.3)) (length-sha256 (content_text (content.ViewChange x.0.change))), counted_change h c)
 
-  module _ (c : Choice) (may : next_offer s ≡ Some c) where
+  module _ (c : Choice) (may : possible_choice s ≡ Some c) where
     abbrev offer : NewView
     offer = record { view = s.view; named = map name_of (counted s); choice = c }
 
     decided : IsChoice s.me.f (counted s) (Chosen c)
-    decided = subst (λ (d : Decision). IsChoice s.me.f (counted s) d) (chosen_by (decision_of s.me.f (counted s)) c (choice_is s c (offer_is s c may)).3) (decision_is_choice s.me.f (counted s))
+    decided = subst (λ (d : Decision). IsChoice s.me.f (counted s) d) (chosen_by (decision_of s.me.f (counted s)) c (choice_is s c may).3) (decision_is_choice s.me.f (counted s))
 
     agrees : Agrees s.me.f offer (counted s)
     agrees = record {
       rises = counted_rise s;
-      many = let q = (choice_is s c (offer_is s c may)).2 in let l = length-map (counted s) name_of in omega (arith, q, l);
+      many = let q = (choice_is s c may).2 in let l = length-map (counted s) name_of in omega (arith, q, l);
       named = refl;
       views = all_pass (λ (h : Heard). h.change.view == s.view) (counted s) (λ h k. let x = counted_in s h k in eq-eqb h.change.view s.view (ap (λ (y : ViewChange). y.view) x.4 ∙ x.2));
       choice = decided;
     }
 
-    in_range_offer : IsNewView offer
+    pub in_range_offer : IsNewView offer
     in_range_offer = agreed_may_be_sent s.me.f offer (counted s) (all_from WasSent (counted s) was_sent) agrees
 
     -- the changes of the others as passed on
     abbrev AreRelayed : FinMap nat_cmp Relayed → Type 0
-    AreRelayed m = (j : ℕ) (r : Relayed) → get m j ≡ Some r → (j < size_of_group s.me.f) × IsValid r.change × IsContent (content.ViewChange r.change) × (r.digest ≡ content_digest_of (content.ViewChange r.change)) × (r.change.view ≡ s.view)
+    AreRelayed m = (j : ℕ) (r : Relayed) → get m j ≡ Some r → (j < size_of_group s.me.f) × IsValid r.change × IsContent (content.ViewChange r.change) × (r.digest ≡ content_digest_of (content.ViewChange r.change)) × (r.change.view ≡ s.view) × IsTags r.tags
 
     abbrev relayed_one : FinMap nat_cmp Relayed → ℕ → FinMap nat_cmp Relayed
     relayed_one m j = option_map_or (λ (c : HeldChange). insert m j (record { digest = c.digest; change = c.change; tags = c.tags; is_verified = true })) (get s.heard j) m
@@ -151,6 +152,7 @@ module _ (s : State) (f : Whole s) where
                 subst (λ (r : Relayed). IsContent (content.ViewChange r.change)) y.1 x.2,
                 subst (λ (r : Relayed). r.digest ≡ content_digest_of (content.ViewChange r.change)) y.1 x.3,
                 subst (λ (r : Relayed). r.change.view ≡ s.view) y.1 (seen c e),
+                subst (λ (r : Relayed). IsTags r.tags) y.1 x.4,
               )
               | inr y ↦ a q r y
             ])
@@ -167,7 +169,7 @@ module _ (s : State) (f : Whole s) where
         let both : ◌≡◌ {A = Option HeldChange} (Some x.0) (Some c) = sym x.1 ∙ (ap (λ i. get s.heard i) m.2 ∙ e) in
         ap (λ (y : HeldChange). y.change.view) (sym (same x.0 c both)) ∙ x.2
 
-    offered : (s.me.f ≡ 0 → ⊥) → Whole (with_offer s c)
+    pub offered : (s.me.f ≡ 0 → ⊥) → Whole (with_offer s c)
     unfolding with_offer
     offered n = record {
       who = f.who;
@@ -176,7 +178,11 @@ module _ (s : State) (f : Whole s) where
       book = f.book;
       votes = f.votes;
       numbers = f.numbers;
+      own_votes = f.own_votes;
       waited = f.waited;
+      marks = f.marks;
+      acks = f.acks;
+      needed = f.needed;
       low = f.low;
       pending = f.pending;
       slots = f.slots;
@@ -198,12 +204,20 @@ module _ (s : State) (f : Whole s) where
       alone_held = λ z. absurd (n z);
     }
 
+    -- its last place is a number
+    pub offer_last : last_of c ≤ 1000000
+    offer_last = last_few s.me.f (counted s) c decided counted_change in_range_offer.place
+
     offer_whole : (s.me.f ≡ 0 → ⊥) → Whole (entered (with_offer s c) c)
     unfolding with_offer
     offer_whole n =
-        entered_fits _ c (offered n) (choice_is s c (offer_is s c may)).0 (λ k. nothing offer (sym k))
-        (last_few s.me.f (counted s) c decided counted_change in_range_offer.place) (λ d k. in_all IsDigest c.chosen d in_range_offer.chosen k)
+        entered_fits _ c (offered n) (choice_is s c may).0 (λ k. nothing offer (sym k))
+        offer_last (λ d k. in_all IsDigest c.chosen d in_range_offer.chosen k)
 
 pub offer_fits : (s : State) (asked : Counters) (c : Choice) → Whole s → IsEnabled s asked (act.Offer c) → Whole (did s (act.Offer c)).state
 unfolding did did_offer
-offer_fits s asked c f h = offer_whole s f c h.1 (ne_is s.me.f 0 h.0)
+offer_fits s asked c f h = offer_whole s f c (offer_is s c h.1) (ne_is s.me.f 0 h.0)
+
+-- a digest of the possible choice that is asked for
+pub chosen_digest : (s : State) → Whole s → (d : List ℕ) → next_need_chosen s ≡ Some d → IsDigest d
+chosen_digest s f d h = let n = need_chosen_is s d h in in_all IsDigest n.0.chosen d (in_range_offer s f n.0 n.1).chosen n.2

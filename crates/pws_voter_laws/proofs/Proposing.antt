@@ -235,7 +235,7 @@ module _ (e : Evidence) (short : (k : BodyKey) (body : List ℕ) → get e.bodie
       ]
 
 -- a group of the layout is below its length
-group_below : (layout : List ℕ) (group f : ℕ) → slice_get layout group ≡ Some f → group < length layout
+pub group_below : (layout : List ℕ) (group f : ℕ) → slice_get layout group ≡ Some f → group < length layout
 group_below [] group f h = absurd (nothing f h)
 group_below (x ∷ xs) zero f h = omega arith
 group_below (x ∷ xs) (suc n) f h = let r = group_below xs n f h in omega (arith, r)
@@ -337,7 +337,7 @@ module _ (e : Evidence) (fits : FitsEvidence e) (groups : length e.layout ≤ 16
         sizes = all_from (λ (r : Share). length r.bytes ≡ 32) c.shares (λ r i. (each_read (λ (r : Share). r.index) (λ (r : Share). value.Share r.bytes) e fits f small c.ask c.shares read r i).1.value);
       }
 
-candidate_in_range : (s : State) (asked : Counters) (x : Event) → Whole s → Contains (candidates s.evidence asked) x → IsEvent x
+pub candidate_in_range : (s : State) (asked : Counters) (x : Event) → Whole s → Contains (candidates s.evidence asked) x → IsEvent x
 candidate_in_range s asked x f c =
     let own : slice_get s.evidence.layout s.evidence.group ≡ Some s.me.f = ap (slice_get s.evidence.layout) f.who.3 ∙ f.who.2 in
     supported_in_range s.evidence f.evidence f.who.4 s.me.f own f.who.1 x

@@ -27,6 +27,7 @@ use Rattle.pws_protocol.specs.States.{State, Slot, HeldChange, members, window, 
 use Rattle.pws_protocol.specs.Gathered.{ack_at, possible_choice, counted, all_had}
 use Rattle.pws_protocol.specs.Actions.{lesser_view, later_views, next_join, can_refuse, can_impatience, can_ack, next_ack, next_need_chosen, next_digest, next_need_text, next_offer, next_enter, next_place, open_events, next_propose, can_accept, next_accept, can_prepare, next_prepare, next_execute, next_adopt, can_commit, next_commit, can_checkpoint, can_stable, if_stable, next_stable}
 use Rattle.pws_voter_laws.proofs.Found.{nothing, same, guarded, unguarded, passing, then_is, found, mapped, in_range}
+use Rattle.pws_voter_laws.proofs.Parts.{in_window}
 
 pub not_true : (b : Bool) → not b ≡ true → b ≡ false
 not_true true h = absurd cc
@@ -37,10 +38,6 @@ eq_is a b h = eqb-true a b h
 
 pub ne_is : (a b : ℕ) → (a == b) ≡ false → a ≡ b → ⊥
 ne_is a b h e = grind (arith, h, e)
-
--- where a place is in the window
-pub in_window : (low p : ℕ) → is_in_window low p ≡ true → (low < p) × (p ≤ low + 32)
-in_window low p h = let a = and_parts (nat_lt low p) (nat_le p (low + 32)) h in (ltb-true low p a.0, leb-true p (low + 32) a.1)
 
 pub member_in : (s : State) (j : ℕ) → Contains (members s) j → j < size_of_group s.me.f
 member_in s j c = let r = in_range (size_of_group s.me.f) 0 j c in omega (arith, r.1)
@@ -124,7 +121,7 @@ module _ (s : State) where
       (not_true s.active a.0, b.0, leb-true (quorum_of s.me.f) (length (counted s)) b.1, g.1)
 
   wanted : (d : List ℕ) → is_wanted s d ≡ true → set.contains s.needed d ≡ false
-  wanted d h = let a = and_parts (not (is_held s d)) _ h in not_true _ a.1
+  wanted d h = let a = and_parts (not (is_held s d)) _ h in let b = and_parts (not (set.contains s.needed d)) _ a.1 in not_true _ b.0
 
   pub need_chosen_is : (d : List ℕ) → next_need_chosen s ≡ Some d → (c : Choice) × (possible_choice s ≡ Some c) × Contains c.chosen d × (set.contains s.needed d ≡ false)
   unfolding next_need_chosen

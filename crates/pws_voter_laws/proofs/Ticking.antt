@@ -1,7 +1,10 @@
 -- What fits before a tick fits after it.
-use Rattle.std.proofs.Common.{◌≡◌, ℕ, suc, ◌+◌, ◌≤◌, ◌&&◌, not, min, Bool, true, false, if◌then◌else◌, List, [], ◌∷◌, ap, arith}
+use Rattle.std.proofs.Common.{◌≡◌, ℕ, suc, ◌+◌, ◌≤◌, ◌&&◌, not, min, Bool, true, false, if◌then◌else◌, List, [], ◌∷◌, sym, ◌∙◌, ap, arith}
 use Rattle.std.specs.List.{All, fold}
-use Rattle.std.proofs.lemmas.Bool.{eq-eqb}
+use Rattle.std.specs.Ordering.{nat_cmp}
+use Rattle.std.specs.Cmp.Lexicographic.{slice_cmp}
+use Rattle.std.specs.FinSet.{contains-empty}
+use Rattle.std.proofs.lemmas.Bool.{false≢true, eq-eqb}
 use Rattle.pws_event.specs.Counters.{Counters}
 use Rattle.pws_msg.specs.Contents.{IsContent}
 use Rattle.pws_msg.specs.declared.contents.Content.{Content}
@@ -10,7 +13,7 @@ use Rattle.pws_protocol.specs.Ticks.{with_own, is_waiting_for, waited_on, ticked
 use Rattle.pws_voter_laws.proofs.Evidencing.{noted_fits}
 use Rattle.pws_voter_laws.proofs.Parts.{Whole}
 
-own_fits : (asked : Counters) (cs : List Content) (s : State) → All IsContent cs → Whole s → Whole (fold (with_own asked) s cs)
+pub own_fits : (asked : Counters) (cs : List Content) (s : State) → All IsContent cs → Whole s → Whole (fold (with_own asked) s cs)
 own_fits asked [] s i f = f
 own_fits asked (c ∷ cs) s i f = own_fits asked cs (with_own asked s c) (λ k d l. i (suc k) d (omega (arith, l))) (noted_fits s asked (own_id s) c [] f (i 0 c (omega arith)) (omega arith))
 
@@ -26,7 +29,7 @@ waited_alone : (s : State) (asked : Counters) → s.me.f ≡ 0 → waited_on s a
 unfolding waited_on
 waited_alone s asked z = ap (λ b. if not b && is_waiting_for s asked then min (s.waited + 1) 512 else 0) (eq-eqb s.me.f 0 z)
 
-ticked_fits : (s : State) (asked : Counters) → Whole s → Whole (ticked s asked)
+pub ticked_fits : (s : State) (asked : Counters) → Whole s → Whole (ticked s asked)
 unfolding ticked
 ticked_fits s asked f = record {
   who = f.who;
@@ -35,7 +38,11 @@ ticked_fits s asked f = record {
   book = f.book;
   votes = f.votes;
   numbers = f.numbers;
+  own_votes = f.own_votes;
   waited = waited_few s asked;
+  marks = f.marks;
+  acks = f.acks;
+  needed = λ d h. absurd (false≢true (sym (contains-empty (slice_cmp nat_cmp) d) ∙ h));
   low = f.low;
   pending = f.pending;
   slots = f.slots;

@@ -1,4 +1,5 @@
 pub mod Enabled
 pub mod Fitting
 pub mod Rest
+pub mod Room
 pub mod Staying

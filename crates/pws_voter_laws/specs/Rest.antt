@@ -14,8 +14,8 @@ use Rattle.pws_protocol.specs.Gathered.{ack_at, possible_choice}
 use Rattle.pws_protocol.specs.Actions.{Action, next_action}
 use Rattle.pws_protocol.specs.Doing.{Reaction}
 use Rattle.pws_protocol.specs.Reactions.{Input, Reacts, react, begun, settled_state, is_last, then_did}
+use Rattle.pws_protocol.specs.Fits.{Fits, IsInput}
 use Rattle.pws_protocol.specs.Laws.{Goes}
-use Rattle.pws_voter_laws.specs.Fitting.{FitsWhole, IsGiven}
 
 -- the sum of numbers over a list
 abbrev pub total : {X : Type 0} → (X → ℕ) → List X → ℕ
@@ -75,14 +75,14 @@ most_left = 1000001000000
 abbrev pub ActionsLeaveLess : Type 0
 ActionsLeaveLess =
     (asked : Counters) (r : Reaction) (a : Action)
-    → FitsWhole r.state → next_action r.state asked ≡ Some a → is_last a ≡ false → left (then_did r a).state < left r.state
+    → Fits r.state → next_action r.state asked ≡ Some a → is_last a ≡ false → left (then_did r a).state < left r.state
 
 -- so of the actions of one call only so many aren't the last
 abbrev pub ActionsAreFew : Type 0
 ActionsAreFew =
     (s : State) (asked : Counters) (input : Input) (n : ℕ)
-    → FitsWhole s → IsGiven s input → Goes asked n (begun (settled_state s asked) asked input).reaction → n < most_left
+    → Fits s → IsInput s input → Goes asked n (begun (settled_state s asked) asked input).reaction → n < most_left
 
 -- and the function of the reaction gives what the relation has
 abbrev pub ReactionsRest : Type 0
-ReactionsRest = (s : State) (asked : Counters) (input : Input) → FitsWhole s → IsGiven s input → Reacts s asked input (react s asked input)
+ReactionsRest = (s : State) (asked : Counters) (input : Input) → Fits s → IsInput s input → Reacts s asked input (react s asked input)

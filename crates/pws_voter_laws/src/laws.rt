@@ -1,8 +1,9 @@
 //! What holds of every voter: each law is the contract of a function that does nothing.
 
 ghost use Rattle.pws_voter_laws.specs.Enabled.{DoneIsEnabled};
-ghost use Rattle.pws_voter_laws.specs.Fitting.{ActionsKeepFits, ReactionsKeepFits, StartFitsWhole};
+ghost use Rattle.pws_voter_laws.specs.Fitting.{ActionsKeepFits, InputsKeepFits, ReactionsKeepFits, SettlingKeepsFits, SettlingKeepsInputs, TurnsKeepFits};
 ghost use Rattle.pws_voter_laws.specs.Rest.{ActionsAreFew, ActionsLeaveLess, ReactionsRest};
+ghost use Rattle.pws_voter_laws.specs.Room.{ActionsHaveRoom, TicksHaveRoom};
 ghost use Rattle.pws_voter_laws.specs.Staying.{ActionsLeaveTheVoter, ReactionsLeaveTheVoter};
 
 /// What is done passes its own test.
@@ -18,12 +19,26 @@ pub fn reactions_rest()
     ensures met { ReactionsRest }
 {}
 
-/// A voter fits from its start on: what fits before an action that is done fits after it, and what fits before an input
-/// fits after the whole reaction to it.
+/// What fits is kept. What fits before an action that is done fits after it, also once the texts that nothing names are
+/// dropped. What fits still does once its evidence is settled, and may be given the same. And what fits before an input
+/// fits after what it brings before any action, and after the whole reaction to it.
 pub fn voters_fit()
-    ensures start { StartFitsWhole }
+    ensures settled { SettlingKeepsFits }
+    ensures given { SettlingKeepsInputs }
     ensures action { ActionsKeepFits }
+    ensures turn { TurnsKeepFits }
+    ensures input { InputsKeepFits }
     ensures reaction { ReactionsKeepFits }
+{}
+
+/// Each action that is done has room, in a voter that fits.
+pub fn actions_have_room()
+    ensures { ActionsHaveRoom }
+{}
+
+/// What a tick says again has room, in a voter that fits.
+pub fn ticks_have_room()
+    ensures { TicksHaveRoom }
 {}
 
 /// Who a voter is stays as it is: its replica, and the group and the layout of its evidence.
