@@ -1,8 +1,9 @@
 -- The order of the keys of statements, as it is derived, is that of the definitions.
 use Rattle.std.proofs.Common.{◌≡◌, List, Some, None, cond, refl, sym, ◌∙◌, ap, subst}
 use Rattle.std.specs.declared.cmp.Ordering.{Ordering}
-use Rattle.std.specs.Map.{lookup}
-use Rattle.std.specs.BTreeMap.{is_at}
+use Rattle.std.specs.Map.{lookup, keys_of}
+use Rattle.std.specs.BTreeMap.{is_at, insert_entry}
+use Rattle.std.specs.List.Sorted.{IsStrictlySortedBy}
 use Rattle.std.specs.Cmp.{IsTotalOrder}
 use Rattle.std.specs.FinMap.{get, insert, remove, from_entries}
 use Rattle.pws_base.specs.declared.shapes.ReplicaId.{ReplicaId}
@@ -56,3 +57,10 @@ statement_removed es fs k h =
 
 pub statements_total : IsTotalOrder it
 statements_total = subst (λ (S : StatementKey → StatementKey → Ordering). IsTotalOrder S) (sym cmp_is) keys_are_ordered.statements
+
+-- entries stand in the one order as in the other
+pub in_order : (es : List (StatementKey × Content)) → IsStrictlySortedBy it (keys_of es) → IsStrictlySortedBy statement_cmp (keys_of es)
+in_order es h = subst (λ (S : StatementKey → StatementKey → Ordering). IsStrictlySortedBy S (keys_of es)) cmp_is h
+
+pub put_is : (es : List (StatementKey × Content)) (k : StatementKey) (c : Content) → insert_entry it es k c ≡ insert_entry statement_cmp es k c
+put_is es k c = ap (λ (S : StatementKey → StatementKey → Ordering). insert_entry S es k c) cmp_is

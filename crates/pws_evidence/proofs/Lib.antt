@@ -1,9 +1,14 @@
 pub mod Bettered
+pub mod Bounded
 pub mod Compared
+pub mod Counting
+pub mod Due
 pub mod Heard
 pub mod Maps
 pub mod ProposingAnswers
 pub mod ProposingReadings
 pub mod Quorums
 pub mod Ranged
+pub mod Settling
+pub mod Summed
 pub mod Stored

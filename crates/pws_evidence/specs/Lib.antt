@@ -1,3 +1,5 @@
+pub mod Bounds
 pub mod Counted
+pub mod Laws
 pub mod Proposed
 pub mod Stores

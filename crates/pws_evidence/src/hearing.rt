@@ -1,9 +1,12 @@
 //! How statements are heard.
 
-ghost use Rattle.std.specs.Prelude.{◌≡◌, ◌≤◌, length, false, is_some, IfOk, OnOk, OnErr, Some, None};
+ghost use Rattle.std.specs.Prelude.{◌≡◌, ◌≤◌, length, true, false, is_some, IfOk, OnOk, OnErr, Some, None};
 ghost use Rattle.std.specs.Option.{option_map_or};
 ghost use Rattle.std.specs.FinMap.{get};
 ghost use Rattle.pws_protocol.specs.Evidence.{matter_of, first_of, same_statement, new_body, note, note_about, with_body, with_statement};
+ghost use Rattle.pws_protocol.specs.Held.{evidence_held};
+ghost use Rattle.pws_base.specs.Shapes.{has_replica};
+ghost use Rattle.pws_evidence.specs.Bounds.{IsSettled, max_evidence};
 ghost use Rattle.pws_evidence.specs.Stores.{IsNamed, heard_again};
 
 use crate::matters::{is_inside, matter_of};
@@ -132,18 +135,9 @@ impl Evidence {
         }
     }
 
-    /// Hears what a sender said, with the body of its packet, empty where that has none; the body is to have at most
-    /// 32,768 bytes.
-    ///
-    /// `Kept` where it is the sender's first statement about a matter that is inside, or the same again with a body that
-    /// is held for it only now. Of other contents `Already` where the matter is inside, and else `Outside`, as also
-    /// where it is evidence of nothing.
-    ///
-    /// # Errors
-    ///
-    /// `Memory` only; the evidence is unchanged then.
+    /// Hears a content, which may be about nothing.
     #[tactic(auto, unfolding(pws_protocol::specs::Evidence::note))]
-    pub fn hear(
+    fn hear_content(
         &mut self,
         alloc: Global,
         sender: ReplicaId,
@@ -163,5 +157,35 @@ impl Evidence {
             }
             None => Ok(Vote::Outside),
         }
+    }
+
+    /// Hears what a sender said, with the body of its packet, empty where that has none; the body is to have at most
+    /// 32,768 bytes.
+    ///
+    /// `Kept` where it is the sender's first statement about a matter that is inside, or the same again with a body that
+    /// is held for it only now. Of other contents `Already` where the matter is inside, and else `Outside`, as also
+    /// where it is evidence of nothing. Where all that was heard is settled and of replicas of the layout, and this sender is
+    /// one, at most 160 MiB are held afterwards.
+    ///
+    /// # Errors
+    ///
+    /// `Memory` only; the evidence is unchanged then.
+    pub fn hear(
+        &mut self,
+        alloc: Global,
+        sender: ReplicaId,
+        content: &Content,
+        body: &[u8],
+        asked: &Effect,
+    ) -> Result<Vote, Memory>
+        requires { length body.now ≤ 32768 }
+        ensures answer { IfOk result (λ v. v ≡ (note self.old asked.now sender content.now body.now).answer) }
+        ensures heard { OnOk result (self.new ≡ (note self.old asked.now sender content.now body.now).evidence) }
+        ensures err { OnErr result (self.new ≡ self.old) }
+        ensures bounded { IsSettled self.old asked.now → has_replica self.old.layout sender ≡ true → evidence_held self.new ≤ max_evidence }
+    {
+        // shows: the content's fields are in range
+        content.is_lawful();
+        self.hear_content(alloc, sender, content, body, asked)
     }
 }

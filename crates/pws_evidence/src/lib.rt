@@ -6,6 +6,9 @@
 //!   `supports` and `vouchers`, and `proposals` has `candidates`.
 //! - `statements` has a statement as it is kept.
 //! - `matters` tells what a content is evidence of, and whether that is inside.
+//! - `copying` copies the maps of a store, and `holding` counts the bytes that they hold.
+//! - `laws` has functions that do nothing, and whose contracts are laws; `Laws` and `Bounds` state them: that
+//!   candidates are due, and how much settled evidence holds at most.
 //!
 //! What all of it means stands in `pws_protocol`: `Keys`, `Evidence`, `Support`, `Candidates`, in the order of reading.
 //! `Stores`, `Counted` and `Proposed` serve proofs alone.
@@ -15,7 +18,10 @@
 //! go through what is kept.
 #![tactic(auto)]
 
+mod copying;
 mod hearing;
+mod holding;
+pub mod laws;
 mod matters;
 mod proposals;
 pub mod statements;

@@ -1,15 +1,19 @@
 //! The store of evidence.
 
-ghost use Rattle.std.specs.Prelude.{◌≡◌, filter, ◌<◌, ◌≤◌, length, IfOk, OnOk, OnErr, None, Some};
+ghost use Rattle.std.specs.Prelude.{◌≡◌, filter, ◌<◌, ◌≤◌, ◌^◌, length, IfOk, OnOk, OnErr, None, Some};
 ghost use Rattle.std.specs.Option.{option_copied};
 ghost use Rattle.std.specs.FinMap.{get, contains_key};
 ghost use Rattle.sha2.specs.Sha256.{sha256};
 ghost use Rattle.pws_protocol.specs.Evidence.{no_evidence, first_of, matter_of, is_inside, is_call_inside, settled, with_body, with_statement};
+ghost use Rattle.pws_protocol.specs.Held.{evidence_held};
 ghost use Rattle.pws_evidence.specs.Stores.{IsStore, IsNamed, without_statement};
 
+use crate::copying::{copy_bodies, copy_statements};
+use crate::holding::{bodies_held, statements_held};
 use crate::matters::{is_call_inside, is_inside};
 use crate::statements::Statement;
 use pws_base::bytes::Bytes;
+use pws_base::lists::ExactCopy;
 use pws_base::memory::Memory;
 use pws_base::shapes::{GroupId, Layout, ReplicaId};
 use pws_event::effects::Effect;
@@ -128,6 +132,16 @@ impl Evidence {
         self.bodies.contains_key(key)
     }
 
+    /// How many bytes are held: of a statement its length, of a body its length and 32 for its digest. What replicas of the
+    /// layout said, once it is settled, has at most 160 MiB.
+    #[tactic(auto, unfolding(pws_protocol::specs::Held::evidence_held))]
+    pub fn held(&self) -> u64
+        requires { evidence_held self.now < 2 ^ 64 }
+        ensures { result ≡ evidence_held self.now }
+    {
+        statements_held(&self.statements) + bodies_held(&self.bodies)
+    }
+
     /// Drops what is no longer inside.
     pub fn settle(&mut self, asked: &Effect)
         ensures { self.new ≡ settled self.old asked.now }
@@ -203,5 +217,16 @@ impl Evidence {
                 Err(error)
             }
         }
+    }
+}
+
+impl ExactCopy for Evidence {
+    fn copy(&self, alloc: Global) -> Result<Evidence, Memory> {
+        Ok(Evidence {
+            group: self.group,
+            layout: self.layout,
+            statements: copy_statements(alloc, &self.statements)?,
+            bodies: copy_bodies(alloc, &self.bodies)?,
+        })
     }
 }
