@@ -1,0 +1,4 @@
+pub mod Marked
+pub mod Members
+pub mod Opened
+pub mod Put
