@@ -1,12 +1,12 @@
 -- Digests in a list as a finite set.
-use Rattle.std.proofs.Common.{◌≡◌, ℕ, suc, ◌+◌, Bool, true, false, cond, ◌||◌, List, [], ◌∷◌, ◌++◌, length, refl, sym, ◌∙◌, ap, arith, length-append}
+use Rattle.std.proofs.Common.{◌≡◌, ℕ, ◌+◌, Bool, true, false, cond, ◌||◌, List, [], ◌∷◌, ◌++◌, length, refl, sym, ◌∙◌, ap, arith, length-append}
 use Rattle.std.specs.List.{list_any}
 use Rattle.std.specs.Str.{bytes_eq}
 use Rattle.std.specs.Ordering.{nat_cmp, eq_by_cmp}
 use Rattle.std.specs.Cmp.{Equal-is}
 use Rattle.std.specs.Cmp.Lexicographic.{slice_cmp, nat_list_cmp_total}
 use Rattle.std.specs.FinMap.{nat_cmp-IsAntisymmetric, slice_cmp-IsAntisymmetric}
-use Rattle.std.specs.FinSet.{FinSet, contains, insert, from_list, len, len-insert, contains-insert, contains-from_list, contains_tied, same_set, from_list_push}
+use Rattle.std.specs.FinSet.{FinSet, contains, insert, from_list, len, len-empty, len-insert, contains-insert, contains-from_list, contains_tied, same_set, from_list_push}
 use Rattle.std.proofs.lemmas.Map.Text.{is_eq-slice_cmp}
 
 among : (d : List ℕ) (ks : List (List ℕ)) → list_any (bytes_eq d) ks ≡ list_any (eq_by_cmp (slice_cmp nat_cmp) d) ks
@@ -26,6 +26,10 @@ there s k h = same_set nat_list_cmp_total (slice_cmp-IsAntisymmetric nat_cmp-IsA
 
 pub pushed : (ks : List (List ℕ)) (k : List ℕ) → from_list {R = slice_cmp nat_cmp} (ks ++ k ∷ []) ≡ insert (from_list ks) k
 pushed ks k = from_list_push nat_list_cmp_total (slice_cmp-IsAntisymmetric nat_cmp-IsAntisymmetric) ks k
+
+-- no digests are none
+pub none_counted : (ks : List (List ℕ)) → ks ≡ [] → len (from_list {R = slice_cmp nat_cmp} ks) ≡ length ks
+none_counted ks e = ap (λ (xs : List (List ℕ)). len (from_list {R = slice_cmp nat_cmp} xs)) e ∙ (len-empty (slice_cmp nat_cmp) ∙ ap length (sym e))
 
 -- one that is new makes one more
 pub counted : (ks : List (List ℕ)) (k : List ℕ) → contains (from_list {R = slice_cmp nat_cmp} ks) k ≡ false → len (from_list {R = slice_cmp nat_cmp} ks) ≡ length ks → len (from_list {R = slice_cmp nat_cmp} (ks ++ k ∷ [])) ≡ length (ks ++ k ∷ [])

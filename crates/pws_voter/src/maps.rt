@@ -256,6 +256,7 @@ impl Model for DigestSet {
 
 impl DigestSet {
     /// No digests.
+    #[tactic(auto, using(crate::proofs::Sets::none_counted))]
     pub fn new(alloc: Global) -> DigestSet
         ensures { result ≡ set.empty }
     {
@@ -296,6 +297,7 @@ impl DigestSet {
     }
 
     /// Drops all digests.
+    #[tactic(auto, using(crate::proofs::Sets::none_counted))]
     pub fn clear(&mut self)
         ensures { self.new ≡ set.empty }
     {
